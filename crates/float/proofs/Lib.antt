@@ -1,0 +1,6 @@
+pub mod Nans
+pub mod Itself
+pub mod Order
+pub mod Laws
+pub mod Signs
+pub mod One
