@@ -1,0 +1,6 @@
+pub mod Select
+pub mod Reduction
+pub mod Pairs
+pub mod Named
+pub mod Count
+pub mod Unique

@@ -1,0 +1,11 @@
+use Rattle.line.specs.Active.{noRows}
+use borrow.Author.Needs.{needs}
+use Rattle.line.proofs.no_rows.Statement.{statement}
+use Rattle.line.proofs.no_rows.Tie as tie
+
+returns : tie.Need-returns
+unfolding noRows
+returns c = search needs
+
+pub no-rows-spec : {M : Type 1} → statement M
+no-rows-spec = tie.close (tie.spec returns)
