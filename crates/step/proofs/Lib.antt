@@ -1,0 +1,5 @@
+pub mod Answers
+pub mod Cases
+pub mod Rules
+pub mod Named
+pub mod Count
