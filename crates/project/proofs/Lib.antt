@@ -1,0 +1,5 @@
+pub mod Count
+pub mod Answers
+pub mod Attempts
+pub mod Cuts
+pub mod Parts

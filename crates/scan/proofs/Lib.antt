@@ -1,0 +1,4 @@
+pub mod Rules
+pub mod Count
+pub mod Turns
+pub mod Answers
