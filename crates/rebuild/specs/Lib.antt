@@ -1,0 +1,2 @@
+pub mod Supports
+pub mod Rebuild

@@ -1,0 +1,5 @@
+pub mod Cases
+pub mod Named
+pub mod Count
+pub mod Entry
+pub mod Unique
