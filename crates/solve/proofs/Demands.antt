@@ -1,0 +1,103 @@
+-- The three demands, in the terms of the entries' contracts: `solve` gives back `solve T A flat` of the task T, the allowance A and the floats lent, and
+-- `lp_2d_incre_max_y` gives back `lp2dIncreMaxY T flat`. That every entry returns for every input is that its contract has no `requires`.
+use mathlib.Core.Path.{_≡_, _∙_}
+use mathlib.Core.Logic.{_↔_, _≢_}
+use mathlib.Core.List.{List}
+use Prim.Native.Nat.{ℕ, _+_, _*_, _/_, _%_, _^_, _≤_, _<_}
+use native.Mathlib.Omega.{arith}
+use lib.ListN.{length}
+use lib.Ieee.{Float}
+use Rattle.rows.specs.Constants.{mostRows}
+use Rattle.rows.specs.Rows.{rowsOf, flatOf, refusal}
+use Rattle.rows.proofs.Lengths.{length-rowsOf}
+use Rattle.line.specs.declared.Slot.the-variants.{Holds}
+use Rattle.line.specs.declared.Active.{Active}
+use Rattle.solve.specs.declared.Task.{Task}
+use Rattle.solve.specs.declared.Answer.{Answer}
+use Rattle.solve.specs.declared.Outcome.the-variants.{Answered, Stopped, Refused}
+use Rattle.solve.specs.Solve.{allSolves, count, rowsWithin, solve, lp2dIncreMaxY, number}
+use Rattle.solve.proofs.Allowance as allowance
+use Rattle.solve.proofs.Count as counting
+use Rattle.solve.proofs.Examples.{All, examples, examples-hold}
+use Rattle.solve.proofs.Named as named
+
+module _ (T : Task) (flat : List Float) where
+  -- how many rows are lent, and how many readings a solve of them takes
+  abbrev lent : ℕ
+  lent = length flat / 3
+
+  abbrev taken : ℕ
+  taken = count (allSolves T (rowsOf flat))
+
+  -- ---- 1. "Every entry answers for every input: any floats, any skip, any lengths." "Refusals are numbered; each says what it returns and what it leaves."
+
+  -- refusal 1, where the floats are not a multiple of 3, and 2, above 4,096 rows
+  pub refuses-1 : (A : ℕ) → number (solve T A flat .outcome) ≡ 1 ↔ length flat % 3 ≢ 0
+  refuses-1 A =
+      let exactly = allowance.solve-refuses-exactly T flat A 1 (omega arith) (omega arith) in
+      let when = allowance.refusal-1 (length flat) in
+      (λ e. when .0 (exactly .0 e), λ h. exactly .1 (when .1 h))
+
+  pub refuses-2 : (A : ℕ) → number (solve T A flat .outcome) ≡ 2 ↔ (length flat % 3 ≡ 0) × (mostRows < lent)
+  refuses-2 A =
+      let exactly = allowance.solve-refuses-exactly T flat A 2 (omega arith) (omega arith) in
+      let when = allowance.refusal-2 (length flat) in
+      (λ e. when .0 (exactly .0 e), λ h. exactly .1 (when .1 h))
+
+  -- either gives its number, and leaves the floats as they were; so does the entry with no allowance
+  pub refuses : (A : ℕ) → refusal 3 (length flat) ≢ 0 → solve T A flat ≡ record { outcome = Refused (refusal 3 (length flat)); rows = flat }
+  refuses = allowance.solve-refuses T flat
+
+  pub refuses-alike : refusal 3 (length flat) ≢ 0 → lp2dIncreMaxY T flat ≡ record { outcome = Refused (refusal 3 (length flat)); rows = flat }
+  refuses-alike = allowance.lp2dIncreMaxY-refuses T flat
+
+  -- every other input has an answer, which that entry always gives
+  pub answers : refusal 3 (length flat) ≡ 0 → (a : Answer) × (act : Active) × (lp2dIncreMaxY T flat .outcome ≡ Answered a act taken)
+  answers = allowance.lp2dIncreMaxY-answers T flat
+
+  -- refusal 4 is never given
+  pub never-four : (A : ℕ) → number (solve T A flat .outcome) ≢ 4
+  never-four = allowance.solve-never-four T flat
+
+  module _ (A : ℕ) {a : Answer} {act : Active} {n : ℕ} (e : solve T A flat .outcome ≡ Answered a act n) where
+    -- "'No row' never reads as a row": a row that is named is one of those lent
+    pub first-is-there : {i : ℕ} → act .first ≡ Holds i → i < lent
+    first-is-there = named.first-is-there T A flat e
+
+    pub second-is-there : {i : ℕ} → act .second ≡ Holds i → i < lent
+    second-is-there = named.second-is-there T A flat e
+
+    -- ---- 2. "Answers, lent rows and active rows equal the Rust's": those of the definition are the Rust's, operation by operation. An answer does not
+    -- depend on the allowance, and is that of the source's own entry.
+
+    pub whatever-allowance : solve T A flat ≡ lp2dIncreMaxY T flat
+    whatever-allowance = allowance.solve-finishes T flat A (allowance.keeps-within T flat A e .1)
+
+    -- ---- 3. "and reports exactly that count"
+
+    pub reports-count : n ≡ taken
+    reports-count = allowance.solve-reports T flat A e
+
+    -- "For n rows, 2 to 4,096, a solve takes at most 28n³ + 133n² + 70n + 28 rows"
+    pub count-bound : n ≤ 28 * lent ^ 3 + 133 * lent ^ 2 + 70 * lent + 28
+    count-bound = rw (reports-count, ← length-rowsOf flat) (counting.count-bound T (rowsOf flat))
+
+    -- with no row or one, the count is the row count
+    pub count-few : lent ≤ 1 → n ≡ lent
+    count-few few = reports-count ∙ counting.count-few T (rowsOf flat) (rw length-rowsOf few) ∙ length-rowsOf flat
+
+  -- "Given an allowance it stops unfinished exactly when its count without one exceeds it": it gives back the allowance as its count, no active rows, and the rows as after the last
+  -- normalisation whose readings all fitted
+  pub stops-exactly : (A : ℕ) → number (solve T A flat .outcome) ≡ 3 ↔ (refusal 3 (length flat) ≡ 0) × (A < taken)
+  stops-exactly = allowance.solve-three-exactly T flat
+
+  pub stops : (A : ℕ) → refusal 3 (length flat) ≡ 0 → A < taken → solve T A flat ≡ record { outcome = Stopped 3 A; rows = flatOf (rowsWithin A (rowsOf flat) (allSolves T (rowsOf flat))) }
+  stops = allowance.solve-stops T flat
+
+  -- "otherwise answer, rows and active rows are those of demand 2"
+  pub finishes : (A : ℕ) → taken ≤ A → solve T A flat ≡ lp2dIncreMaxY T flat
+  finishes = allowance.solve-finishes T flat
+
+-- the worked examples
+pub worked : All examples
+worked = examples-hold

@@ -1,0 +1,14 @@
+pub mod Examples
+pub mod Rules
+pub mod Allowance
+pub mod RowsLeft
+pub mod Values
+pub mod Named
+pub mod Lengths
+pub mod Count
+pub mod Answers
+pub mod Cases
+pub mod Rounds
+pub mod Unlimited
+pub mod Unique
+pub mod Demands
