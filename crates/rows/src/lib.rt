@@ -6,6 +6,7 @@ ghost use Rattle.rounding.specs.Root.{root};
 ghost use Rattle.rows.specs.Rows.{rowsOf, flatOf, rowAt, refusal, residual, noBoundary, normalizedBy, normalized, normalizing, normalizedFlat, singular, crossing};
 
 // a*x + b*y <= c; for `solve_2x2`, a*x + b*y = c.
+#[repr(C)]
 pub struct Row {
     pub a: f64,
     pub b: f64,
