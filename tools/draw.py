@@ -1,0 +1,507 @@
+#!/usr/bin/env python3
+"""Draws one problem and the answer that rowrun gave to it as an SVG picture."""
+
+import argparse
+import math
+import re
+import sys
+import textwrap
+from dataclasses import dataclass
+from xml.sax.saxutils import escape
+
+import plane
+import records
+
+WIDTH, HEIGHT = 640, 480
+LEFT, TOP, PLOT_WIDTH, PLOT_HEIGHT = 78, 34, 546, 304  # where the plane is shown
+BOX = (LEFT, TOP, LEFT + PLOT_WIDTH, TOP + PLOT_HEIGHT)
+CAPTION_LEFT, CAPTION_STEP = 20, 16
+LINE_LETTERS, BOLD_LETTERS = 84, 72  # letters that fit a line of the caption
+LETTER_WIDTH, LETTER_HEIGHT = 6.6, 14  # of the labels in the plot
+
+# Colours that stay apart for every kind of colour blindness (Okabe and Ito's).
+FIRST, SECOND, FEASIBLE = "#D55E00", "#0072B2", "#009E73"
+PLAIN, SHADE, INK, GRID = "#5F6B76", "#8A97A3", "#1B1F23", "#E3E7EA"
+
+REFUSALS = {
+    1: "the floats lent do not come out even",
+    2: "too many rows",
+    3: "the count is above the allowance",
+    4: "all seven solves passed without an answer",
+    5: "the determinant is not finite or within its error bound",
+    6: "recovery found nothing",
+    7: "the prefix is longer than the rows",
+    8: "the record is cut by the end of input",
+    9: "unknown kind of record",
+    10: "body of wrong size, or normalise byte above 1",
+}
+
+HEX, INDEX, COUNT = "([0-9A-Fa-f]{16})", r"([0-9]+|-)", "([0-9]+)"
+FORMS = {
+    "point": re.compile(f"[0-9]+ point {HEX} {HEX} {INDEX} {INDEX} {COUNT}"),
+    "level": re.compile(f"[0-9]+ level ()?{HEX} {INDEX} {INDEX} {COUNT}"),
+    "across": re.compile(f"[0-9]+ across {HEX} ()?{INDEX} {INDEX} {COUNT}"),
+    "nothing": re.compile(f"[0-9]+ nothing ()?()?{INDEX} {INDEX} {COUNT}"),
+}
+REFUSED = re.compile("[0-9]+ refused ([0-9]+)")
+
+
+@dataclass
+class Answer:
+    """What rowrun answered. x and y are None where the answer has none, first and second for no row."""
+
+    kind: str
+    x: float = None
+    y: float = None
+    first: int = None
+    second: int = None
+    count: int = None
+    refusal: int = None
+
+    def active(self):
+        return [number for number in (self.first, self.second) if number is not None]
+
+
+def read_answer(line):
+    """The answer of one line of rowrun."""
+    match = REFUSED.fullmatch(line)
+    if match:
+        return Answer("refused", refusal=int(match[1]))
+    for kind, form in FORMS.items():
+        match = form.fullmatch(line)
+        if match:
+            x, y = (records.float_of(int(digits, 16)) if digits else None for digits in match.groups()[:2])
+            if any(value is not None and math.isnan(value) for value in (x, y)):
+                raise ValueError("a coordinate is NaN")
+            first, second = (None if word == "-" else int(word) for word in match.groups()[2:4])
+            return Answer(kind, x, y, first, second, int(match[5]))
+    raise ValueError(f"not a line of rowrun: '{line[:60]}'")
+
+
+def find_answer(data, name, number):
+    """The answer to record `number` among the lines of rowrun."""
+    for place, line in enumerate(data.decode("utf-8", "replace").splitlines(), 1):
+        if line.split()[:1] == [str(number)]:
+            try:
+                return read_answer(line.strip())
+            except ValueError as wrong:
+                raise records.TextError(name, place, wrong) from None
+    raise ValueError(f"{name}: no line for record {number}")
+
+
+def looks_like_records(data):
+    """Records hold bytes that no text holds: the high bytes of a length, for one, are zeros."""
+    return any(byte < 32 and byte not in b"\t\n\r\f\v" for byte in data)
+
+
+def find_record(data, name, number, form):
+    """Record `number` of a stream or of its text."""
+    if form == "records" or (form is None and looks_like_records(data)):
+        found = records.read_records(data)
+    else:
+        found = records.parse_text(data, name)
+    if not 1 <= number <= len(found):
+        raise ValueError(f"{name}: no record {number}, it holds {len(found)}")
+    return found[number - 1]
+
+
+# Words
+
+
+def short(number):
+    """A number in at most nine digits, without the padding of its exponent."""
+    text = format(number, ".9g")
+    return re.sub(r"e\+?(-?)0*", r"e\1", text) if "e" in text else text
+
+
+def brief(number):
+    """A number in six digits, for the caption and the labels."""
+    return short(float(format(number, ".6g")))
+
+
+def say_active(answer):
+    """The active rows in words."""
+    if answer.first is not None and answer.second is not None:
+        return f"rows {answer.first} and {answer.second}"
+    if answer.first is not None:
+        return f"first active row {answer.first}, no second"
+    if answer.second is not None:
+        return f"no first active row, second {answer.second}"
+    return "no active rows"
+
+
+def say_place(answer):
+    """The answer without rows and count, in words."""
+    if answer.kind == "point":
+        return f"point ({brief(answer.x)}, {brief(answer.y)})"
+    if answer.kind == "level":
+        return f"level y = {brief(answer.y)}, x is open"
+    if answer.kind == "across":
+        return f"across x = {brief(answer.x)}, y is open"
+    return "nothing: neither x nor y"
+
+
+def say_answer(answer):
+    """The whole answer in words."""
+    if answer.kind == "refused":
+        return f"refused {answer.refusal}: {REFUSALS.get(answer.refusal, 'no meaning is known for this number')}"
+    return f"{say_place(answer)}, {say_active(answer)}, count {answer.count}"
+
+
+def say_term(factor, letter, leading):
+    """A factor times a letter, with its sign."""
+    if factor == 0:
+        return ""
+    sign = "-" if factor < 0 else "" if leading else "+"
+    size = "" if abs(factor) == 1 else brief(abs(factor)) + " "
+    return f"{sign}{size}{letter}" if leading else f" {sign} {size}{letter}"
+
+
+def say_row(number, row):
+    """A row as an inequality."""
+    a, b, c = row
+    if math.isnan(a) or math.isnan(b):
+        return f"row {number}: {brief(a)} x + {brief(b)} y <= {brief(c)}"
+    left = say_term(a, "x", True)
+    left += say_term(b, "y", not left)
+    return f"row {number}: {left or '0'} <= {brief(c)}"
+
+
+def say_runs(rows):
+    """Pairs of a row and a remark, in order, as words with the number of rows they name; neighbours are joined."""
+    runs = []
+    for number, remark in rows:
+        if runs and runs[-1][1] == number - 1 and runs[-1][2] == remark:
+            runs[-1][1] = number
+        else:
+            runs.append([number, number, remark])
+    for first, last, remark in runs:
+        name = f"row {first}" if first == last else f"rows {first} to {last}"
+        yield f"{name} ({remark})" if remark else name, last - first + 1
+
+
+def say_list(opening, rows):
+    """An opening with as many of the rows as fit a line, and how many more there are."""
+    text = opening
+    rest = len(rows)
+    for words, count in say_runs(rows):
+        joined = text + (", " if text != opening else "") + words
+        ending = f", and {rest - count} more" if rest > count else ""
+        if len(joined) + len(ending) > LINE_LETTERS:
+            break
+        text, rest = joined, rest - count
+    return f"{text}, and {rest} more" if rest else text
+
+
+# The picture
+
+
+class Picture:
+    """The parts of one picture, collected in the order in which they are painted."""
+
+    def __init__(self, view):
+        self.view = view
+        self.parts = []
+        self.taken = []  # boxes of the labels and marks in the plot
+        self.lines = []  # segments that labels should keep off
+
+    def pixel(self, share):
+        """Where a point of the view, in shares of its size, stands in the picture."""
+        return LEFT + share[0] * PLOT_WIDTH, TOP + (1 - share[1]) * PLOT_HEIGHT
+
+    def polygon(self, shares, attributes):
+        corners = " ".join("%.2f,%.2f" % self.pixel(share) for share in shares)
+        self.parts.append(f'<polygon points="{corners}" {attributes}/>')
+
+    def line(self, start, end, attributes):
+        self.parts.append('<line x1="%.2f" y1="%.2f" x2="%.2f" y2="%.2f" %s/>' % (*start, *end, attributes))
+
+    def text(self, x, y, words, attributes=""):
+        self.parts.append(f'<text x="{x:.2f}" y="{y:.2f}" {attributes}>{escape(words)}</text>')
+
+    def label(self, words, spots, colour, own=None):
+        """Writes words centred on the spot that collides least, the earlier the better; own is the line named."""
+        width = LETTER_WIDTH * len(words) + 4
+
+        def box_at(spot):
+            return (spot[0] - width / 2, spot[1] - LETTER_HEIGHT / 2, spot[0] + width / 2, spot[1] + LETTER_HEIGHT / 2)
+
+        best = min(range(len(spots)), key=lambda place: (self.collisions(box_at(spots[place]), own), place))
+        x, y = spots[best]
+        self.taken.append(box_at(spots[best]))
+        halo = 'stroke="#FFFFFF" stroke-width="3" stroke-linejoin="round"'
+        for paint in (halo, ""):
+            self.text(x, y + 4, words, f'text-anchor="middle" font-size="12" fill="{colour}" {paint}')
+
+    def collisions(self, box, own):
+        """How badly a label would stand here: outside the plot is worst, then on others, then on lines."""
+        left, low, right, high = box
+        outside = left < BOX[0] + 2 or low < BOX[1] + 2 or right > BOX[2] - 2 or high > BOX[3] - 2
+        covered = sum(left < o[2] + 4 and o[0] - 4 < right and low < o[3] and o[1] < high for o in self.taken)
+        wider = (left - 5, low - 4, right + 5, high + 4)
+        crossed = sum(plane.segment_in_box(*line, wider) is not None for line in self.lines if line != own)
+        crossed += own is not None and plane.segment_in_box(*own, box) is not None
+        return 1000 * outside + 30 * covered + crossed
+
+
+def draw_grid(picture):
+    """The frame with ticks at round numbers, and the axes where they are in view."""
+    view = picture.view
+    left, top, right, bottom = BOX
+    words = f'stroke="none" fill="{INK}"'
+    picture.parts.append(f'<g id="axes" stroke="{GRID}" font-size="11">')
+    for value in ticks_with_room(view):
+        x = picture.pixel(view.shares(value, view.bottom))[0]
+        picture.line((x, top), (x, bottom), f'stroke="{PLAIN}"' if value == 0 else "")
+        picture.text(x, bottom + 15, short(value), f'class="x-tick" text-anchor="middle" {words}')
+    for value in plane.ticks(view.bottom, view.top, 6):
+        y = picture.pixel(view.shares(view.left, value))[1]
+        picture.line((left, y), (right, y), f'stroke="{PLAIN}"' if value == 0 else "")
+        picture.text(left - 6, y + 4, short(value), f'class="y-tick" text-anchor="end" {words}')
+    picture.parts.append("</g>")
+    picture.text(right, bottom + 29, "x", 'text-anchor="end" font-size="12" font-style="italic"')
+    picture.text(left - 6, top - 14, "y", 'text-anchor="end" font-size="12" font-style="italic"')
+
+
+def ticks_with_room(view):
+    """Ticks of the x axis, fewer when their numbers are long."""
+    values = plane.ticks(view.left, view.right, 7)
+    room = PLOT_WIDTH / max(1, len(values))
+    if any(LETTER_WIDTH * (len(short(value)) + 2) > room for value in values):
+        values = plane.ticks(view.left, view.right, 4)
+    return values
+
+
+def draw_shading(picture, cuts):
+    """The excluded sides, lightly, and what all rows leave. Many rows are shaded together, lest all turn dark."""
+    left_over = plane.clip_all(plane.UNIT_SQUARE, [cut for _, cut in cuts])
+    few = len(cuts) <= plane.FEW_ROWS
+    picture.parts.append(f'<g id="excluded" fill="{SHADE}" fill-opacity="{0.16 if few else 0.3}">')
+    if few:
+        sides = [plane.clip(plane.UNIT_SQUARE, (-a, -b, -r), 0.0) for _, (a, b, r) in cuts]
+    else:
+        sides = [plane.UNIT_SQUARE]
+    for side in filter(None, sides):
+        picture.polygon(side, "")
+    picture.parts.append("</g>")
+    if left_over:
+        if not few:
+            picture.polygon(left_over, 'fill="#FFFFFF"')
+        colours = f'fill="{FEASIBLE}" fill-opacity="0.28" stroke="{FEASIBLE}" stroke-width="1.5"'
+        picture.polygon(left_over, f'id="feasible" {colours} stroke-linejoin="round"')
+    return bool(left_over)
+
+
+def draw_boundaries(picture, cuts, answer):
+    """The boundary of each row, the active ones heavier and on top. Gives those in view and in colour."""
+    few = len(cuts) <= plane.FEW_ROWS
+    faint = max(0.1, min(0.6, 40 / max(1, len(cuts))))  # so that thousands of lines do not make one blot
+    thin = 'stroke-width="1.2"' if few else f'stroke-width="0.6" stroke-opacity="{faint:.2f}"'
+    shown = {}
+    for number, cut in sorted(cuts, key=lambda entry: entry[0] in answer.active()):
+        segment = plane.boundary(cut)
+        if segment is None:
+            continue
+        start, end = map(picture.pixel, segment)
+        colour, look = PLAIN, f'class="row" {thin}'
+        if number in answer.active():
+            colour = FIRST if number == answer.first else SECOND
+            look = 'class="row active" stroke-width="3"'
+        picture.line(start, end, f'id="row-{number}" {look} stroke="{colour}"')
+        if few or number in answer.active():
+            shown[number] = (start, end, colour, cut)
+            picture.lines.append((start, end))
+        else:
+            shown[number] = None
+    return shown
+
+
+def name_boundaries(picture, shown):
+    """Names the rows in view that are to be named, the active ones first so that they get the best spots."""
+    named = [(number, entry) for number, entry in shown.items() if entry]
+    for number, (start, end, colour, (a, b, _)) in reversed(named):
+        across, up = end[0] - start[0], end[1] - start[1]
+        length = math.hypot(across, up) or 1.0
+        # The unit normal in pixels, pointing to the excluded side (the picture's y runs down).
+        normal = (-up / length, across / length)
+        if normal[0] * a * PLOT_HEIGHT - normal[1] * b * PLOT_WIDTH < 0:
+            normal = (-normal[0], -normal[1])
+        words = f"row {number}"
+        off = 5 + LETTER_HEIGHT / 2 * abs(normal[1]) + LETTER_WIDTH * len(words) / 2 * abs(normal[0])
+        spots = []
+        for side in (1, -1):
+            for share in (0.9, 0.1, 0.8, 0.2, 0.7, 0.3, 0.6, 0.4, 0.5, 0.95, 0.05):
+                x, y = start[0] + share * across, start[1] + share * up
+                spots.append((x + side * off * normal[0], y + side * off * normal[1]))
+        picture.label(words, spots, colour if colour != PLAIN else INK, (start, end))
+
+
+def draw_answer(picture, answer):
+    """Marks the answer: a point, a line, or an arrow at the edge of the picture for one too far off."""
+    if answer.x is None and answer.y is None:
+        return
+    view = picture.view
+    x = (view.left + view.right) / 2 if answer.x is None else answer.x
+    y = (view.bottom + view.top) / 2 if answer.y is None else answer.y
+    # On which side of the view each coordinate lies: 0 for inside.
+    beyond_x = (x > view.right) - (x < view.left)
+    beyond_y = (y > view.top) - (y < view.bottom)
+    inside = min(max(x, view.left), view.right), min(max(y, view.bottom), view.top)
+    at = picture.pixel(view.shares(*inside))
+    if beyond_x or beyond_y:
+        draw_arrow(picture, at, (beyond_x, -beyond_y), say_far(answer))
+    elif answer.kind == "point":
+        look = f'fill="{INK}" stroke="#FFFFFF" stroke-width="2"'
+        picture.parts.append(f'<circle id="answer" cx="{at[0]:.2f}" cy="{at[1]:.2f}" r="6" {look}/>')
+        picture.taken.append((at[0] - 8, at[1] - 8, at[0] + 8, at[1] + 8))
+        label_beside(picture, at, say_far(answer))
+    else:
+        draw_answer_line(picture, at, answer)
+
+
+def say_far(answer):
+    """The answer as a label in the plot."""
+    if answer.kind == "point":
+        return f"({brief(answer.x)}, {brief(answer.y)})"
+    return f"y = {brief(answer.y)}" if answer.kind == "level" else f"x = {brief(answer.x)}"
+
+
+def label_beside(picture, at, words):
+    """Writes words near a mark: above it if that is free, otherwise around it, otherwise farther off."""
+    half = LETTER_WIDTH * len(words) / 2 + 2
+    spots = []
+    for away in (12, 22, 36):
+        for turn in (0, 2, -2, 3, -3, 1, -1, 4, -4, 5, -5, 6):
+            angle = turn * math.pi / 6
+            across, up = math.sin(angle), math.cos(angle)
+            spots.append((at[0] + across * (half + away), at[1] - up * (LETTER_HEIGHT / 2 + away)))
+    picture.label(words, spots, INK)
+
+
+def draw_arrow(picture, at, way, words):
+    """An arrow to the edge of the plot, with the value that lies beyond."""
+    length = math.hypot(*way)
+    across, down = way[0] / length, way[1] / length
+    tip = at[0] - 3 * across, at[1] - 3 * down
+    tail = tip[0] - 44 * across, tip[1] - 44 * down
+    neck = tip[0] - 13 * across, tip[1] - 13 * down
+    picture.parts.append(f'<g id="far-answer" stroke="{INK}" fill="{INK}" stroke-width="2.5">')
+    picture.line(tail, neck, "")
+    corners = [tip, (neck[0] - 6 * down, neck[1] + 6 * across), (neck[0] + 6 * down, neck[1] - 6 * across)]
+    picture.parts.append('<polygon points="%s" stroke="none"/>' % " ".join("%.2f,%.2f" % corner for corner in corners))
+    picture.parts.append("</g>")
+    picture.lines.append((tail, tip))
+    reach = 8
+    low, high = [min(pair) - reach for pair in zip(tip, tail)], [max(pair) + reach for pair in zip(tip, tail)]
+    picture.taken.append((*low, *high))
+    label_beside(picture, tail, words)
+
+
+def draw_answer_line(picture, at, answer):
+    """The line of a level or across answer, broken so that a boundary under it is seen."""
+    if answer.kind == "level":
+        start, end = (BOX[0], at[1]), (BOX[2], at[1])
+    else:
+        start, end = (at[0], BOX[1]), (at[0], BOX[3])
+    picture.line(start, end, f'id="answer" stroke="{INK}" stroke-width="2.5" stroke-dasharray="9 6"')
+    picture.lines.append((start, end))
+    label_beside(picture, at, say_far(answer))
+
+
+def caption(problem, answer, missing, outside, left_over):
+    """The lines under the picture, the first of them in bold."""
+    rows = problem.float_rows()
+    lines = textwrap.wrap(say_answer(answer), BOLD_LETTERS)
+    lines += [say_row(place, rows[place]) for place in dict.fromkeys(answer.active())]
+    if missing:
+        lines.append(say_list("No boundary, not drawn: ", missing))
+    if outside:
+        lines.append(say_list("Boundary outside the picture: ", [(place, "") for place in outside]))
+    if not left_over:
+        lines.append("No point in view meets every row.")
+    return lines
+
+
+def draw_caption(picture, title, lines):
+    """The title above the plot and the caption under it."""
+    picture.text(LEFT, 20, title, 'font-size="13" font-weight="bold"')
+    for place, line in enumerate(lines):
+        weight = 'font-size="13" font-weight="bold"' if place == 0 else 'font-size="12"'
+        picture.text(CAPTION_LEFT, BOX[3] + 46 + CAPTION_STEP * place, line, f'class="caption" {weight}')
+
+
+def compose(picture, title, words):
+    """The whole document around the parts of a picture."""
+    opening = (
+        f'<svg xmlns="http://www.w3.org/2000/svg" viewBox="0 0 {WIDTH} {HEIGHT}" width="{WIDTH}" height="{HEIGHT}"'
+        f' font-family="Helvetica, Arial, sans-serif" fill="{INK}" role="img">'
+    )
+    background = f'<rect width="{WIDTH}" height="{HEIGHT}" fill="#FFFFFF"/>'
+    head = ['<?xml version="1.0" encoding="UTF-8"?>', opening, f"<title>{escape(title)}</title>"]
+    return "\n".join(head + [f"<desc>{escape(words)}</desc>", background] + picture.parts + ["</svg>"]) + "\n"
+
+
+def draw(number, record, answer):
+    """The picture of a record and its answer."""
+    problem = record if isinstance(record, records.Problem) else records.Problem()
+    if any(place >= len(problem.rows) for place in answer.active()):
+        raise ValueError(f"the answer names a row that record {number} does not have")
+    planes, missing = [], []
+    for place, row in enumerate(problem.float_rows()):
+        found, why = plane.half_plane(place, row, problem.normalise)
+        if found:
+            planes.append(found)
+        else:
+            missing.append((place, why))
+    view = plane.choose_view(planes, answer.active(), answer.x, answer.y, PLOT_WIDTH / PLOT_HEIGHT)
+    picture = Picture(view)
+    cuts = [(found.number, view.cut(found)) for found in planes]
+    draw_grid(picture)
+    left_over = draw_shading(picture, cuts) if problem is record else True
+    shown = draw_boundaries(picture, cuts, answer)
+    frame = f'x="{LEFT}" y="{TOP}" width="{PLOT_WIDTH}" height="{PLOT_HEIGHT}"'
+    picture.parts.append(f'<rect {frame} fill="none" stroke="{PLAIN}"/>')
+    draw_answer(picture, answer)
+    name_boundaries(picture, shown)
+    outside = [found.number for found in planes if found.number not in shown]
+    lines = caption(problem, answer, missing, outside, left_over)
+    title = say_title(number, record)
+    draw_caption(picture, title, lines)
+    return compose(picture, title, say_answer(answer))
+
+
+def say_title(number, record):
+    """What the picture shows, in words."""
+    if not isinstance(record, records.Problem):
+        return f"Record {number}: not a problem"
+    rows = len(record.rows)
+    return f"Record {number}: {rows} row{'' if rows == 1 else 's'}"
+
+
+# The command
+
+
+def main(arguments=None):
+    parser = argparse.ArgumentParser(description=__doc__)
+    parser.add_argument("problem", metavar="PROBLEM", help="text or records, '-' for standard input")
+    parser.add_argument("answers", metavar="ANSWERS", help="the lines of rowrun, '-' for standard input")
+    parser.add_argument("--record", type=int, default=1, metavar="K", help="the record to draw, from 1 (default 1)")
+    parser.add_argument("--as", dest="form", choices=["text", "records"], help="how PROBLEM is read, else by content")
+    chosen = parser.parse_args(arguments)
+    if chosen.problem == chosen.answers == "-":
+        parser.error("only one of PROBLEM and ANSWERS can be standard input")
+    try:
+        record = find_record(records.read_input(chosen.problem), chosen.problem, chosen.record, chosen.form)
+        answer = find_answer(records.read_input(chosen.answers), chosen.answers, chosen.record)
+        picture = draw(chosen.record, record, answer)
+    except OSError as wrong:
+        print(f"{wrong.filename or 'input'}: {wrong.strerror or wrong}", file=sys.stderr)
+        return 2
+    except (ValueError, records.TextError) as wrong:
+        print(wrong, file=sys.stderr)
+        return 2
+    return records.write_output(picture.encode())
+
+
+if __name__ == "__main__":
+    sys.exit(main())

@@ -1,0 +1,656 @@
+"""Tests of records.py and draw.py: python3 -m unittest discover tools
+
+The round trip of a whole stream takes crates/rowrun/stdin and its stdout, or the files that the environment
+variables ROWRUN_RECORDS and ROWRUN_ANSWERS name.
+"""
+
+import math
+import os
+import pathlib
+import random
+import struct
+import subprocess
+import sys
+import tempfile
+import time
+import unittest
+import xml.etree.ElementTree
+
+import draw
+import plane
+import records
+
+HERE = pathlib.Path(__file__).resolve().parent
+ROWRUN = HERE.parent / "crates" / "rowrun"
+SPACE = "{http://www.w3.org/2000/svg}"
+
+
+def stream_file(variable, name):
+    """A file of the stream that rowrun is tested with, or None."""
+    path = pathlib.Path(os.environ.get(variable) or ROWRUN / name)
+    return path if path.is_file() else None
+
+
+def run(command, *arguments, given=b""):
+    """Runs a command of this directory to its end."""
+    return subprocess.run([sys.executable, str(HERE / command), *map(str, arguments)], input=given, capture_output=True)
+
+
+def hexed(number):
+    """A float as rowrun prints it."""
+    return struct.pack(">d", number).hex().upper()
+
+
+def body(*rows, front=(1e-9, 10.0, 0.0, 1e6), skip=0, allowance=1000000, normalise=0):
+    """The body of a record of kind 1, written here a second time, on its own."""
+    packed = struct.pack("<4d", *front) + struct.pack("<QQB", skip, allowance, normalise)
+    return packed + b"".join(struct.pack("<3d", *row) for row in rows)
+
+
+def record(kind, content):
+    return struct.pack("<IH", len(content), kind) + content
+
+
+def pack(text):
+    return records.write_records(records.parse_text(text.encode(), "text"))
+
+
+class Packing(unittest.TestCase):
+    def test_defaults(self):
+        self.assertEqual(pack("lp\n1 2 3\n"), record(1, body((1, 2, 3))))
+
+    def test_no_rows(self):
+        self.assertEqual(pack("lp"), record(1, body()))
+
+    def test_every_key_in_any_order(self):
+        text = "lp normalise=1 allowance=18446744073709551615 start=-2.5,inf scale=3 skip=7 tolerance=0.25\n"
+        wanted = body(front=(0.25, 3.0, -2.5, math.inf), skip=7, allowance=2**64 - 1, normalise=1)
+        self.assertEqual(pack(text), record(1, wanted))
+
+    def test_comments_blank_lines_commas_and_line_ends(self):
+        text = "\ufeff# a comment\r\n\r\n  lp  # another\r\n1, -2 ,3e0 # third\r\n\t4 5\t6\r\n1,2,3"
+        self.assertEqual(pack(text), record(1, body((1, -2, 3), (4, 5, 6), (1, 2, 3))))
+
+    def test_forms_of_numbers(self):
+        text = "lp\n0x1.8p3 -0X1P-2 =bff0000000000000\n1_000 -inf -0.0\n5e-324 .5 +1E2\n"
+        rows = [(12.0, -0.25, -1.0), (1000.0, -math.inf, -0.0), (5e-324, 0.5, 100.0)]
+        self.assertEqual(pack(text), record(1, body(*rows)))
+
+    def test_plain_nan_and_exact_bits(self):
+        packed = pack("lp\nnan =7FF0000000000001 =FFFFFFFFFFFFFFFF\n")
+        wanted = struct.pack("<3Q", 0x7FF8000000000000, 0x7FF0000000000001, 0xFFFFFFFFFFFFFFFF)
+        self.assertEqual(packed[-24:], wanted)
+
+    def test_raw_and_tail(self):
+        text = "raw kind=65535 body=00fF10\nraw body= kind=0\ntail 0102\n"
+        self.assertEqual(pack(text), b"\x03\0\0\0\xff\xff\x00\xff\x10" + b"\0\0\0\0\0\0" + b"\x01\x02")
+
+    def test_nothing_packs_to_nothing(self):
+        self.assertEqual(pack(""), b"")
+        self.assertEqual(pack("# only a comment\n\n"), b"")
+        self.assertEqual(records.format_text(records.read_records(b"")), "")
+
+    def test_sample_is_two_bodies_of_97_bytes(self):
+        data = pack((HERE / "sample.txt").read_text())
+        first = record(1, body((1, 1, 2), (-1, 1, 0), allowance=1000))
+        second = record(1, body((0, 1, 1), (0, -1, -2), allowance=1000))
+        self.assertEqual(data, first + second)
+        self.assertEqual((data[0], data[103], len(data)), (97, 97, 206))
+
+
+class Errors(unittest.TestCase):
+    # Each text with the line that is wrong and what is said of it.
+    CASES = [
+        ("1 2 3", 1, "a row needs a line 'lp' before it"),
+        ("raw kind=2 body=\n1 2 3", 2, "a row needs a line 'lp' before it"),
+        ("lp\n\n1 2", 3, "a row is three numbers a b c, here stand 2"),
+        ("lp\n1 2 3 4", 2, "a row is three numbers a b c, here stand 4"),
+        ("lp\n1, 2 3", 2, "a row is three numbers a b c, here stand 2"),
+        ("lp\n1,,3", 2, "'' is not a number"),
+        ("lp\n1 two 3", 2, "'two' is not a number"),
+        ("lp\n1 2 =3FF", 2, "'=3FF' is not a number"),
+        ("lp\n1 2 =3FF000000000000_", 2, "'=3FF000000000000_' is not a number"),
+        ("lp\n1 2 0x1p5000", 2, "'0x1p5000' is not a number"),
+        ("lp\n1 2 0xzz", 2, "'0xzz' is not a number"),
+        ("lp scale", 1, "'scale' is not key=value"),
+        ("lp size=1", 1, "unknown key 'size', known are tolerance, scale, start, skip, allowance, normalise"),
+        ("lp skip=1 skip=1", 1, "'skip' is given twice"),
+        ("lp tolerance=", 1, "'' is not a number"),
+        ("lp start=1", 1, "start is two numbers x,y, not '1'"),
+        ("lp start=1,2,3", 1, "start is two numbers x,y, not '1,2,3'"),
+        ("lp skip=-1", 1, "'-1' is not a whole number from 0 to 18446744073709551615"),
+        ("lp allowance=18446744073709551616", 1, "'18446744073709551616' is not a whole number from 0 to 1844674407"),
+        ("lp allowance=1e3", 1, "'1e3' is not a whole number from 0 to 18446744073709551615"),
+        ("lp normalise=2", 1, "'2' is not a whole number from 0 to 1"),
+        ("raw kind=65536 body=", 1, "'65536' is not a whole number from 0 to 65535"),
+        ("raw kind=1", 1, "raw needs both kind=K and body=HEX"),
+        ("raw kind=1 body=0", 1, "the bytes are not pairs of hex digits"),
+        ("tail", 1, "tail needs its bytes as one word of hex digits"),
+        ("tail 0g", 1, "the bytes are not pairs of hex digits"),
+        ("tail 00\n# fine\nlp", 3, "nothing can follow a tail"),
+    ]
+
+    def test_each_message(self):
+        for text, line, what in self.CASES:
+            with self.subTest(text=text), self.assertRaises(records.TextError) as caught:
+                pack(text)
+            self.assertTrue(str(caught.exception).startswith(f"text:{line}: {what}"), caught.exception)
+
+    def test_bytes_that_are_no_text(self):
+        with self.assertRaisesRegex(records.TextError, "^x:2: not text in UTF-8$"):
+            records.parse_text(b"lp\n1 2 \xff\n", "x")
+
+    def test_a_body_too_long_for_its_length(self):
+        problem = records.Problem(rows=range((2**32 - 1 - 49) // 24))
+        with self.assertRaisesRegex(ValueError, "^more rows than a record can hold$"):
+            records.add_row(problem, (0, 0, 0))
+
+
+class RoundTrips(unittest.TestCase):
+    def check(self, data):
+        text = records.format_text(records.read_records(data))
+        self.assertEqual(records.write_records(records.parse_text(text.encode(), "text")), data)
+        return text
+
+    def test_the_stream_of_rowrun(self):
+        path = stream_file("ROWRUN_RECORDS", "stdin")
+        if path is None:
+            self.skipTest("there is no crates/rowrun/stdin, and ROWRUN_RECORDS names no file")
+        data = path.read_bytes()
+        self.assertGreater(len(records.read_records(data)), 100)
+        self.check(data)
+
+    def test_random_problems(self):
+        source = random.Random(1)
+        for _ in range(300):
+            rows = source.choice([0, 1, 2, 9])
+            # Any bits are a float: half of the words are NaNs, infinities or nearly so.
+            words = [source.getrandbits(64) | source.choice([0, 0x7FF0000000000000]) for _ in range(6 + 3 * rows)]
+            content = struct.pack("<6QB", *words[:6], source.getrandbits(1)) + struct.pack(f"<{3 * rows}Q", *words[6:])
+            text = self.check(record(1, content))
+            self.assertEqual(text.splitlines()[1].split()[0], "lp")
+
+    def test_random_streams(self):
+        source = random.Random(2)
+        for _ in range(300):
+            data = b""
+            for _ in range(source.randrange(4)):
+                content = source.choice([body((1, 2, 3)), source.randbytes(source.choice([0, 48, 49, 50, 73]))])
+                data += record(source.choice([0, 1, 1, 2, 65535]), content)
+            self.check(data[: len(data) - source.choice([0, 0, 1, 30])])
+
+    def test_what_is_not_well_formed_is_raw(self):
+        for kind, content in [(2, body()), (1, body()[:-1]), (1, body() + b"0"), (1, body(normalise=2)), (1, b""), (1, bytes(1)), (1, bytes(25))]:
+            text = self.check(record(kind, content))
+            self.assertEqual(text, f"# record 1\nraw kind={kind} body={content.hex().upper()}\n")
+
+    def test_every_cut(self):
+        data = record(1, body()) + record(1, body((1, 2, 3)))
+        for end in range(56, len(data)):
+            self.assertTrue(self.check(data[:end]).endswith(f"# record 2\ntail {data[55:end].hex().upper()}\n"))
+
+    def test_text_is_readable(self):
+        text = records.format_text(records.read_records(record(1, body((1, -0.0, math.nan), (0.1, 1e300, math.inf)))))
+        header = "lp tolerance=1e-09 scale=10.0 start=0.0,1000000.0 skip=0 allowance=1000000 normalise=0"
+        self.assertEqual(text, f"# record 1\n{header}\n1.0 -0.0 nan\n0.1 1e+300 inf\n")
+
+
+class Commands(unittest.TestCase):
+    def setUp(self):
+        directory = tempfile.TemporaryDirectory()
+        self.addCleanup(directory.cleanup)
+        self.directory = pathlib.Path(directory.name)
+
+    def file(self, name, content):
+        path = self.directory / name
+        path.write_bytes(content)
+        return path
+
+    def test_files_in_order_and_standard_input(self):
+        one, two = self.file("one", b"lp\n1 2 3"), self.file("two", b"raw kind=7 body=AA")
+        done = run("records.py", "pack", one, two)
+        self.assertEqual((done.returncode, done.stdout, done.stderr), (0, record(1, body((1, 2, 3))) + record(7, b"\xaa"), b""))
+        self.assertEqual(run("records.py", "pack", given=b"lp\n1 2 3").stdout, record(1, body((1, 2, 3))))
+        self.assertEqual(run("records.py", "unpack", given=record(7, b"\xaa")).stdout, b"# record 1\nraw kind=7 body=AA\n")
+
+    def test_empty_input(self):
+        for command in ("pack", "unpack"):
+            done = run("records.py", command)
+            self.assertEqual((done.returncode, done.stdout, done.stderr), (0, b"", b""))
+
+    def test_an_error_writes_nothing(self):
+        good, bad = self.file("good", b"lp\n1 2 3"), self.file("bad", b"lp\n1 2")
+        done = run("records.py", "pack", good, bad)
+        message = f"{bad}:2: a row is three numbers a b c, here stand 2\n"
+        self.assertEqual((done.returncode, done.stdout, done.stderr.decode()), (2, b"", message))
+
+    def test_a_tail_ends_all_files(self):
+        done = run("records.py", "pack", self.file("one", b"tail 00"), self.file("two", b"\nlp"))
+        self.assertEqual((done.returncode, done.stdout), (2, b""))
+        self.assertTrue(done.stderr.decode().endswith("two:2: nothing can follow a tail\n"))
+
+    def test_a_missing_file(self):
+        for command in ("pack", "unpack"):
+            done = run("records.py", command, self.directory / "none")
+            self.assertEqual((done.returncode, done.stdout), (2, b""))
+            self.assertEqual(done.stderr.decode(), f"{self.directory / 'none'}: No such file or directory\n")
+
+    def test_input_that_comes_in_pieces(self):
+        data = record(1, body((1, 2, 3)))
+        command = [sys.executable, str(HERE / "records.py"), "unpack"]
+        with subprocess.Popen(command, stdin=subprocess.PIPE, stdout=subprocess.PIPE) as process:
+            for piece in (data[:3], data[3:40], data[40:]):
+                process.stdin.write(piece)
+                process.stdin.flush()
+                time.sleep(0.05)
+            process.stdin.close()
+            self.assertEqual(process.stdout.read(), run("records.py", "unpack", given=data).stdout)
+
+    def test_closed_output(self):
+        large = self.file("large", b"lp\n" + b"1 2 3\n" * 20000)
+        small = self.file("small", b"lp\n1 2 3")  # fails only when it is flushed
+        for command in (["records.py", "pack", large], ["records.py", "pack", small], ["draw.py", HERE / "sample.txt", self.file("a", SAMPLE_ANSWERS)]):
+            reader, writer = os.pipe()
+            os.close(reader)  # nobody reads: the first write fails
+            arguments = [sys.executable, str(HERE / command[0]), *map(str, command[1:])]
+            done = subprocess.run(arguments, stdout=writer, stderr=subprocess.PIPE)
+            os.close(writer)
+            self.assertEqual((done.returncode, done.stderr), (1, b""))
+
+    def test_drawing_by_text_and_by_records(self):
+        answers = self.file("answers", SAMPLE_ANSWERS)
+        stream = self.file("sample.bin", pack((HERE / "sample.txt").read_text()))
+        by_text = run("draw.py", HERE / "sample.txt", answers, "--record", 2)
+        by_records = run("draw.py", stream, answers, "--record", 2)
+        self.assertEqual((by_text.returncode, by_text.stderr), (0, b""))
+        self.assertIn(b"Record 2: 2 rows", by_text.stdout)
+        self.assertEqual(by_records.stdout, by_text.stdout)
+        self.assertEqual(run("draw.py", stream, answers, "--record", 2, "--as", "text").returncode, 2)
+        piped = run("draw.py", stream, "-", "--record", 2, given=SAMPLE_ANSWERS)
+        self.assertEqual(piped.stdout, by_text.stdout)
+
+    def test_what_cannot_be_drawn(self):
+        sample = HERE / "sample.txt"
+        for answers, number, message in [
+            (SAMPLE_ANSWERS, 3, f"{sample}: no record 3, it holds 2"),
+            (SAMPLE_ANSWERS, 0, f"{sample}: no record 0, it holds 2"),
+            (b"1 nothing - - 0\nend 1\n", 2, "-: no line for record 2"),
+            (b"1 point 3FF 3FF 0 1 7\n", 1, "-:1: not a line of rowrun: '1 point 3FF 3FF 0 1 7'"),
+            (b"1 nothing - - 0\n2 level 7FF8000000000000 - - 1\n", 2, "-:2: a coordinate is NaN"),
+            (b"1 nothing 2 - 0\n", 1, "the answer names a row that record 1 does not have"),
+        ]:
+            done = run("draw.py", sample, "-", "--record", number, given=answers)
+            self.assertEqual((done.returncode, done.stdout, done.stderr.decode()), (2, b"", message + "\n"))
+
+
+SAMPLE_ANSWERS = (
+    b"1 point 3FF0000000000000 3FF0000000000000 0 1 7\n2 point 0000000000000000 4000000000000000 1 - 23\nend 2\n"
+)
+
+
+class Svg:
+    """A picture read back, with its own scale taken from the ticks."""
+
+    def __init__(self, text):
+        self.root = xml.etree.ElementTree.fromstring(text)
+        self.by_id = {element.get("id"): element for element in self.root.iter() if element.get("id")}
+        self.captions = [element.text for element in self.of_class("caption")]
+
+    def of_class(self, name):
+        return [element for element in self.root.iter() if name in (element.get("class") or "").split()]
+
+    def ticks(self, axis):
+        """Pairs of a tick's number and its pixel; a label of the y axis stands 4 pixels under its tick."""
+        shift = 4 if axis == "y" else 0
+        return [(float(tick.text), float(tick.get(axis)) - shift) for tick in self.of_class(f"{axis}-tick")]
+
+    def plane(self, axis, pixel):
+        """The coordinate at a pixel, by the first and last tick."""
+        (low, start), (high, end) = self.ticks(axis)[0], self.ticks(axis)[-1]
+        return low + (pixel - start) / (end - start) * (high - low)
+
+    def ends(self, name):
+        """The two ends of a line, in the plane."""
+        line = self.by_id[name]
+        return [(self.plane("x", float(line.get("x" + n))), self.plane("y", float(line.get("y" + n)))) for n in "12"]
+
+    def corners(self, element):
+        """The corners of a polygon, in the plane."""
+        pixels = [map(float, pair.split(",")) for pair in element.get("points").split()]
+        return [(self.plane("x", x), self.plane("y", y)) for x, y in pixels]
+
+    def words(self):
+        return [element.text for element in self.root.iter(f"{SPACE}text")]
+
+
+def picture(rows, line, **front):
+    """The picture of a problem with these rows and this line of rowrun without its number."""
+    content = records.read_records(record(1, body(*rows, **front)))[0]
+    return Svg(draw.draw(1, content, draw.read_answer(f"1 {line}")))
+
+
+def point(x, y, rest="- - 7"):
+    return f"point {hexed(x)} {hexed(y)} {rest}"
+
+
+def inside(corners, x, y):
+    """Whether a point lies in a polygon, by the number of edges to the right of it."""
+    edges = zip(corners, corners[1:] + corners[:1])
+    return sum((a[1] > y) != (b[1] > y) and x < a[0] + (y - a[1]) / (b[1] - a[1]) * (b[0] - a[0]) for a, b in edges) % 2
+
+
+class Drawing(unittest.TestCase):
+    S3 = [(1, 1, 2), (-1, 1, 0)]
+    S5 = [(-1, 0, 0), (1, 0, 1)]
+
+    def assert_readable(self, drawn, limit):
+        """Ticks on both axes, within the limit, in order and not too many."""
+        for axis in "xy":
+            values = [value for value, _ in drawn.ticks(axis)]
+            self.assertTrue(3 <= len(values) <= 16, values)
+            self.assertEqual(values, sorted(set(values)))
+            self.assertLessEqual(max(map(abs, values)), limit)
+
+    def test_s3_point_stands_where_the_ticks_say(self):
+        drawn = picture(self.S3, point(1, 1, "0 1 7"))
+        mark = drawn.by_id["answer"]
+        self.assertEqual(mark.tag, SPACE + "circle")
+        self.assertAlmostEqual(drawn.plane("x", float(mark.get("cx"))), 1, delta=0.01)
+        self.assertAlmostEqual(drawn.plane("y", float(mark.get("cy"))), 1, delta=0.01)
+        self.assertEqual(drawn.root.get("viewBox"), "0 0 640 480")
+
+    def test_s3_boundaries_are_the_rows(self):
+        drawn = picture(self.S3, point(1, 1, "0 1 7"))
+        for number, (a, b, c) in enumerate(self.S3):
+            ends = drawn.ends(f"row-{number}")
+            self.assertGreater(math.dist(*ends), 1)
+            for x, y in ends:
+                self.assertAlmostEqual(a * x + b * y, c, delta=0.02)
+
+    def test_s3_sides(self):
+        drawn = picture(self.S3, point(1, 1, "0 1 7"))
+        feasible = drawn.corners(drawn.by_id["feasible"])
+        self.assertTrue(inside(feasible, 1, 0.9) and inside(feasible, 0.5, 0.4))
+        self.assertFalse(inside(feasible, 1, 1.1) or inside(feasible, 0.3, 0.4) or inside(feasible, 1.6, 0.5))
+        sides = [drawn.corners(side) for side in drawn.by_id["excluded"]]
+        self.assertEqual(len(sides), 2)
+        self.assertTrue(inside(sides[0], 1.1, 1.1) and not inside(sides[0], 0.8, 0.8))
+        self.assertTrue(inside(sides[1], 0.4, 0.8) and not inside(sides[1], 0.8, 0.4))
+
+    def test_active_rows_are_heavier_and_named(self):
+        drawn = picture(self.S3 + [(0, -1, 0)], point(1, 1, "0 1 7"))
+        weights = [float(drawn.by_id[f"row-{number}"].get("stroke-width")) for number in range(3)]
+        self.assertEqual([element.get("id") for element in drawn.of_class("active")], ["row-0", "row-1"])
+        self.assertGreater(min(weights[:2]), 2 * weights[2])
+        # Painted last, so that they lie on top, and in two colours.
+        self.assertEqual([element.get("id") for element in drawn.of_class("row")], ["row-2", "row-0", "row-1"])
+        self.assertEqual(len({element.get("stroke") for element in drawn.of_class("row")}), 3)
+        self.assertLessEqual({"row 0", "row 1", "row 2", "(1, 1)"}, set(drawn.words()))
+
+    def test_captions(self):
+        one = (hexed(1), hexed(-2.5))
+        for line, wanted in [
+            (f"point {one[0]} {one[1]} 0 1 7", "point (1, -2.5), rows 0 and 1, count 7"),
+            (f"point {one[0]} {one[1]} 1 - 23", "point (1, -2.5), first active row 1, no second, count 23"),
+            (f"point {one[0]} {one[1]} - 1 23", "point (1, -2.5), no first active row, second 1, count 23"),
+            (f"level {one[1]} - - 1", "level y = -2.5, x is open, no active rows, count 1"),
+            (f"across {one[1]} - - 4", "across x = -2.5, y is open, no active rows, count 4"),
+            ("nothing - - 0", "nothing: neither x nor y, no active rows, count 0"),
+            ("refused 3", "refused 3: the count is above the allowance"),
+            ("refused 11", "refused 11: no meaning is known for this number"),
+        ]:
+            self.assertEqual(picture(self.S3, line).captions[0], wanted)
+
+    def test_every_refusal_has_its_own_meaning(self):
+        captions = {picture(self.S3, f"refused {number}").captions[0] for number in range(1, 11)}
+        self.assertEqual(len({caption.split(": ")[1] for caption in captions}), 10)
+
+    def test_active_rows_as_inequalities(self):
+        drawn = picture([(-1, 0.5, 2), (0, -3, 1e24)], point(0, 0, "0 1 7"))
+        self.assertEqual(drawn.captions[1:3], ["row 0: -x + 0.5 y <= 2", "row 1: -3 y <= 1e24"])
+
+    def test_level_is_horizontal_and_across_vertical(self):
+        (x1, y1), (x2, y2) = picture([(0, 2, 6)], f"level {hexed(3)} - - 1").ends("answer")
+        self.assertGreater(x2 - x1, 1)
+        self.assertAlmostEqual(y1, 3, delta=0.02)
+        self.assertAlmostEqual(y2, 3, delta=0.02)
+        (x1, y1), (x2, y2) = picture([(2, 0, 6)], f"across {hexed(3)} - - 1").ends("answer")
+        self.assertGreater(abs(y2 - y1), 1)
+        self.assertAlmostEqual(x1, 3, delta=0.02)
+        self.assertAlmostEqual(x2, 3, delta=0.02)
+
+    def test_nothing_and_refusals_have_no_mark(self):
+        for line in ("nothing - - 4", "refused 3"):
+            drawn = picture(self.S3, line)
+            self.assertFalse({"answer", "far-answer"} & set(drawn.by_id))
+            self.assertIn("row-1", drawn.by_id)
+
+    def test_rows_without_boundary(self):
+        rows = self.S3 + [(math.nan, 1, 2), (1, 1, math.inf), (0, 0, -5), (0, -0.0, 0)]
+        drawn = picture(rows, point(1, 1, "0 1 7"))
+        reasons = "rows 2 to 3 (nan or inf), rows 4 to 5 (a = b = 0)"
+        self.assertIn("No boundary, not drawn: " + reasons, drawn.captions)
+        self.assertEqual(len(drawn.of_class("row")), 2)
+        self.assertIn("feasible", drawn.by_id)
+
+    def test_a_row_that_normalising_makes_zeros(self):
+        rows = self.S3 + [(1e200, 0, 1), (1e-200, 0, 1)]
+        normalised = picture(rows, point(1, 1, "0 1 7"), normalise=1)
+        self.assertIn("No boundary, not drawn: rows 2 to 3 (normalised to zeros)", normalised.captions)
+        self.assertNotIn("row-2", normalised.by_id)
+        plain = picture(rows, point(1, 1, "0 1 7"))
+        self.assertIn("row-2", plain.by_id)
+        self.assertIn("Boundary outside the picture: row 3", plain.captions)
+
+    def test_rows_apart_are_listed_apart(self):
+        drawn = picture([(0, 0, 1), (1, 1, 2), (0, 0, 1)], "nothing - - 9")
+        self.assertIn("No boundary, not drawn: row 0 (a = b = 0), row 2 (a = b = 0)", drawn.captions)
+
+    def test_a_long_answer_is_broken_into_lines(self):
+        line = point(-1.23456e-138, -6.54321e-201, f"- 1 {2**64 - 1}")
+        captions = picture(self.S3, line).captions
+        self.assertLessEqual(max(map(len, captions)), 84)
+        self.assertLessEqual(len(captions[0]), 72)
+        self.assertIn(str(2**64 - 1), captions[1])
+
+    def test_names_stand_on_the_excluded_side(self):
+        for row, above in [((0, 1, 3), True), ((0, -1, 3), False)]:
+            drawn = picture([row], "nothing - - 1")
+            name = next(element for element in drawn.root.iter(f"{SPACE}text") if element.text == "row 0")
+            self.assertEqual(float(name.get("y")) < float(drawn.by_id["row-0"].get("y1")), above)
+
+    def test_labels_of_the_example_keep_apart(self):
+        problem = records.parse_text((HERE / "example.txt").read_bytes(), "example")[0]
+        drawn = Svg(draw.draw(1, problem, draw.read_answer("1 " + point(1, 7, "6 5 28"))))
+        names = [f"row {number}" for number in range(7)] + ["(1, 7)"]
+        places = {text.text: text for text in drawn.root.iter(f"{SPACE}text") if text.text in names}
+        boxes = [(float(text.get("x")), float(text.get("y")), 3.3 * len(words)) for words, text in places.items()]
+        self.assertEqual(len(boxes), 8)
+        for place, (x, y, half) in enumerate(boxes):
+            self.assertTrue(78 < x - half and x + half < 624 and 34 < y - 10 and y < 338)
+            for other_x, other_y, other_half in boxes[:place]:
+                self.assertTrue(abs(x - other_x) > half + other_half or abs(y - other_y) > 12)
+
+    def test_the_axes_are_darker_than_the_grid(self):
+        drawn = picture(self.S3, point(1, 1, "0 1 7"))
+        upright, flat = [line for line in drawn.by_id["axes"].iter(f"{SPACE}line") if line.get("stroke")]
+        self.assertAlmostEqual(drawn.plane("x", float(upright.get("x1"))), 0, delta=0.01)
+        self.assertAlmostEqual(drawn.plane("y", float(flat.get("y1"))), 0, delta=0.01)
+
+    def test_content_tells_text_from_records(self):
+        self.assertFalse(draw.looks_like_records(b"lp\r\n\t1 2 3\n"))
+        self.assertTrue(draw.looks_like_records(record(1, body())))
+        self.assertEqual(draw.find_record(b"lp\n", "x", 1, "records"), records.Tail(b"lp\n"))
+
+    def test_an_active_row_without_boundary(self):
+        drawn = picture([(math.nan, 1, 2), (1, 0, 1)], point(1, 2, "0 1 7"))
+        self.assertIn("row 0: nan x + 1 y <= 2", drawn.captions)
+
+    def test_only_rows_without_boundary(self):
+        drawn = picture([(math.nan, 1, 2), (0, 0, 1)] * 200, point(5, 7))
+        self.assertIn("answer", drawn.by_id)
+        start = "No boundary, not drawn: row 0 (nan or inf), row 1 (a = b = 0), and 398 more"
+        self.assertEqual(drawn.captions[1], start)
+        self.assertLessEqual(max(map(len, drawn.captions)), draw.LINE_LETTERS)
+
+    def test_huge_answers_become_arrows(self):
+        for x, y, words in [
+            (0.0, 1e24, "(0, 1e24)"),
+            (0.0, 999999.0, "(0, 999999)"),
+            (-1e300, math.inf, "(-1e300, inf)"),
+            (1.0, -math.inf, "(1, -inf)"),
+        ]:
+            drawn = picture(self.S5, point(x, y))
+            self.assertIn("far-answer", drawn.by_id)
+            self.assertNotIn("answer", drawn.by_id)
+            self.assertIn(words, drawn.words())
+            self.assert_readable(drawn, 3)
+
+    def test_an_arrow_points_to_the_answer(self):
+        for x, y, across, up in [(0.0, 1e24, 0, 1), (0.5, -1e24, 0, -1), (1e24, 0.0, 1, 0), (-1e24, -1e24, -1, -1)]:
+            arrow = picture(self.S5, point(x, y)).by_id["far-answer"]
+            tail, neck = ([float(arrow[0].get(axis + end)) for axis in "xy"] for end in "12")
+            tip = [float(part) for part in arrow[1].get("points").split()[0].split(",")]
+            for start, end in ((tail, neck), (neck, tip)):
+                self.assertEqual(math.copysign(1, end[0] - start[0]) if end[0] != start[0] else 0, across)
+                self.assertEqual(math.copysign(1, start[1] - end[1]) if end[1] != start[1] else 0, up)
+
+    def test_one_far_row_or_crossing_does_not_spoil_the_view(self):
+        for far in [(0, 1, 1e24), (1e-24, 1, 1e9), (-1, 1 + 1e-15, 5), (1e-300, 0, 1e300), (0, 1, 1e308)]:
+            drawn = picture(self.S3 + [far], point(1, 1, "0 1 7"))
+            self.assert_readable(drawn, 15)
+            self.assertIn("answer", drawn.by_id)
+
+    def test_an_answer_a_little_off_the_rows_is_in_view(self):
+        for x, y in [(0.5, 5.0), (4.0, -3.0)]:
+            mark = picture(self.S5, point(x, y)).by_id["answer"]
+            self.assertTrue(78 < float(mark.get("cx")) < 624 and 34 < float(mark.get("cy")) < 338)
+
+    def test_few_far_crossings_without_feasible_part(self):
+        rows = [(0, 1, 1), (0, -1, -2), (1, 0, 1), (-1, 0, 0), (1, 1e-5, 1.5)]
+        self.assert_readable(picture(rows, "nothing - - 9"), 20)
+
+    def test_rows_closer_than_their_numbers_can_tell(self):
+        drawn = picture([(1, 0, 1e15 + 2), (-1, 0, -1e15), (0, 1, 1e8)], point(1e15, 1e8))
+        self.assert_readable(drawn, 2e15)
+        self.assertLessEqual(max(len(tick.text) for tick in drawn.of_class("x-tick")), 12)
+        low, high = plane.roomy(1e15, 1e15 + 2, 1.0)
+        self.assertGreater(high - low, 9e9)
+
+    def test_sizes_far_from_one(self):
+        for size in (1e-295, 1e-60, 1e-5, 1e7, 1e200):
+            rows = [(a, b, c * size) for a, b, c in self.S3]
+            drawn = picture(rows, point(size, size, "0 1 7"))
+            self.assert_readable(drawn, 3 * size)
+            self.assertAlmostEqual(drawn.plane("y", float(drawn.by_id["answer"].get("cy"))) / size, 1, delta=0.02)
+
+    def test_axes_of_different_size(self):
+        drawn = picture([(0, 1, 250000), (1, 0, 5), (-1, 0, 5), (0, -1, 0)], point(-5, 250000, "0 2 9"))
+        self.assertLess(max(value for value, _ in drawn.ticks("x")), 20)
+        self.assertGreater(max(value for value, _ in drawn.ticks("y")), 200000)
+
+    def test_random_extremes_are_drawn_inside_the_picture(self):
+        source = random.Random(3)
+        for _ in range(300):
+            numbers = [source.choice([0.0, 1.0, -2.0, 10.0 ** source.uniform(-320, 308), -1e308, 5e-324]) for _ in range(14)]
+            drawn = picture([numbers[at : at + 3] for at in range(0, 12, 3)], point(*numbers[12:], "3 0 9"))
+            for element in drawn.root.iter():
+                for name in ("x", "y", "x1", "x2", "y1", "y2", "cx", "cy"):
+                    self.assertTrue(-1 <= float(element.get(name, 0)) <= 641, numbers)
+
+    def test_no_rows(self):
+        drawn = picture([], "nothing - - 0")
+        self.assertEqual(drawn.of_class("row"), [])
+        self.assert_readable(drawn, 3)
+
+    def test_infeasible_rows_leave_nothing(self):
+        drawn = picture([(0, 1, 1), (0, -1, -2)], point(0, 2, "1 - 23"))
+        self.assertNotIn("feasible", drawn.by_id)
+        self.assertIn("No point in view meets every row.", drawn.captions)
+
+    def test_a_feasible_part_without_area_is_still_drawn(self):
+        drawn = picture([(1, 0.1, 1), (-1, -0.1, -1), (0, 1, 2)], point(0.8, 2, "0 2 9"))
+        self.assertIn("feasible", drawn.by_id)
+
+    def test_a_record_that_is_no_problem(self):
+        for content, refusal in ((records.Raw(9, b"<&>"), 9), (records.Raw(1, b""), 10), (records.Tail(b"1"), 8)):
+            drawn = Svg(draw.draw(4, content, draw.read_answer(f"4 refused {refusal}")))
+            self.assertIn("Record 4: not a problem", drawn.words())
+            self.assertNotIn("feasible", drawn.by_id)
+
+    def test_many_rows(self):
+        turns = [2 * math.pi * number / 2048 for number in range(2048)]
+        rows = [(math.cos(turn), math.sin(turn), 1 + 1000 * math.cos(turn)) for turn in turns]
+        begin = time.monotonic()
+        drawn = picture(rows, point(1000, 1, "512 511 9"))
+        self.assertLess(time.monotonic() - begin, 10)  # two or three seconds, with room for a slow machine
+        self.assertEqual(len(drawn.of_class("row")), 2048)
+        named = {words for words in drawn.words() if words.startswith("row ") and ":" not in words}
+        self.assertEqual(named, {"row 512", "row 511"})
+        feasible = drawn.corners(drawn.by_id["feasible"])
+        for x, y in feasible:
+            self.assertAlmostEqual(math.hypot(x - 1000, y), 1, delta=0.02)
+        self.assertGreater(max(x for x, _ in feasible) - min(x for x, _ in feasible), 1.9)
+
+    def test_all_of_twelve_rows_are_named_but_not_thirteen(self):
+        for count in (12, 13):
+            rows = [(math.cos(number), math.sin(number), 1) for number in range(count)]
+            words = picture(rows, "nothing - - 9").words()
+            self.assertEqual(sum(text.startswith("row ") for text in set(words)), 12 if count == 12 else 0)
+
+    def test_every_record_of_the_stream(self):
+        stream, answers = stream_file("ROWRUN_RECORDS", "stdin"), stream_file("ROWRUN_ANSWERS", "stdout")
+        if stream is None or answers is None:
+            self.skipTest("there is no crates/rowrun/stdin with stdout, and the environment names no files")
+        lines = answers.read_bytes()
+        for number, content in enumerate(records.read_records(stream.read_bytes()), 1):
+            with self.subTest(record=number):
+                answer = draw.find_answer(lines, "answers", number)
+                drawn = Svg(draw.draw(number, content, answer))
+                marks = {"answer", "far-answer"} & set(drawn.by_id)
+                self.assertEqual(len(marks), answer.kind in ("point", "level", "across"))
+
+    def test_the_example_is_feasible_with_two_active_rows(self):
+        problem = records.parse_text((HERE / "example.txt").read_bytes(), "example")[0]
+        rows = problem.float_rows()
+        self.assertTrue(5 <= len(rows) <= 8)
+        excess = [a * 1 + b * 7 - c for a, b, c in rows]  # at (1, 7), its highest point
+        self.assertLessEqual(max(excess), 0)
+        self.assertEqual([number for number, value in enumerate(excess) if value == 0], [5, 6])
+        # Row 5 holds y down to the left of it, row 6 to the right.
+        self.assertTrue(rows[5][0] < 0 < rows[6][0] and min(rows[5][1], rows[6][1]) > 0)
+
+
+class Geometry(unittest.TestCase):
+    def test_the_typical_size_is_that_of_most_rows(self):
+        for distances, wanted in [((1e8, 2e8, 3e8, 1), 1e8), ((1, 1e24), 1), ((1e-9, 5), 5), ((0, 0), 1)]:
+            planes = [plane.HalfPlane(0, 1.0, 0.0, distance) for distance in distances]
+            self.assertAlmostEqual(plane.typical_size(planes) / wanted, 1)
+
+    def test_ticks_are_round_and_inside(self):
+        self.assertEqual(plane.ticks(-0.3, 1.25, 6), [-0.2, 0.0, 0.2, 0.4, 0.6, 0.8, 1.0, 1.2])
+        self.assertEqual(plane.ticks(0, 1e24, 5), [0, 2e23, 4e23, 6e23, 8e23, 1e24])
+
+    def test_half_planes_have_length_one(self):
+        for a, b, c, distance in [(3, 4, 10, 2), (3e300, 4e300, 1e301, 2), (3e-300, -4e-300, 1e-299, 2), (1.2e308, 1.6e308, 1.6e308, 0.8)]:
+            found, why = plane.half_plane(5, (a, b, c), 0)
+            self.assertIsNone(why)
+            self.assertEqual(found.number, 5)
+            self.assertAlmostEqual(found.nx, 0.6)
+            self.assertAlmostEqual(found.ny, math.copysign(0.8, b))
+            self.assertAlmostEqual(found.distance, distance)
+
+    def test_clipping(self):
+        self.assertEqual(plane.clip(plane.UNIT_SQUARE, (1, 0, 2)), plane.UNIT_SQUARE)
+        self.assertEqual(plane.clip(plane.UNIT_SQUARE, (1, 0, -math.inf)), [])
+        half = plane.clip(plane.UNIT_SQUARE, (1, 0, 0.5), 0.0)
+        self.assertEqual(sorted(half), [(0, 0), (0, 1), (0.5, 0), (0.5, 1)])
+
+    def test_segments(self):
+        self.assertEqual(plane.segment_in_box((-1, 0.5), (3, 0.5), (0, 0, 1, 1)), [(0, 0.5), (1, 0.5)])
+        self.assertIsNone(plane.segment_in_box((-1, 1.5), (3, 1.5), (0, 0, 1, 1)))
+        self.assertIsNone(plane.segment_in_box((-1, 0), (0, 2.5), (0, 0, 1, 1)))
+
+
+if __name__ == "__main__":
+    unittest.main()
