@@ -1,0 +1,27 @@
+-- `kernel::ravelsickle_solve_2x2` meets its contract.
+use mathlib.Core.Path.{refl}
+use borrow.Author.Needs.{needs}
+use Rattle.kernel.specs.Kernel.{row, point, crossed, ofCrossing}
+use Rattle.kernel.proofs.ravelsickle_solve_2x2.Statement.{statement}
+use Rattle.kernel.proofs.ravelsickle_solve_2x2.Tie as tie
+
+solve-2x2-requires : tie.Need-solve-2x2-requires
+solve-2x2-requires c κs = search needs
+
+enum-known-got : tie.Need-enum-known-got
+enum-known-got c = search needs
+
+enum-known-got-2 : tie.Need-enum-known-got-2
+enum-known-got-2 c = search needs
+
+returns : tie.Need-returns
+unfolding row point crossed ofCrossing
+returns c = rw (← c .before .before .before .solve-2x2 .ensures, c .before .got .given .1) (refl, refl)
+
+returns-2 : tie.Need-returns-2
+unfolding row point crossed ofCrossing
+returns-2 c = rw (← c .before .before .before .solve-2x2 .ensures, c .before .got2 .given .1) (refl, refl)
+
+pub ravelsickle-solve-2x2-spec : {M : Type 1} → statement M
+ravelsickle-solve-2x2-spec =
+    tie.close (tie.spec solve-2x2-requires enum-known-got enum-known-got-2 returns returns-2)
