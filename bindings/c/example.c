@@ -1,0 +1,65 @@
+/*
+ * A planner asks how fast it may go at one place of a path. y is the speed squared, x the change of it; each limit of a
+ * joint is a row a*x + b*y <= c. Prints the answers in words.
+ */
+#include "ravelsickle.h"
+
+#include <inttypes.h>
+#include <stdio.h>
+
+static void print_row(const char *name, bool there, size_t row) {
+    if (there) {
+        printf(", %s row %zu", name, row);
+    } else {
+        printf(", %s row -", name);
+    }
+}
+
+static void print_answer(const struct ravelsickle_answer *answer) {
+    switch (answer->kind) {
+    case RAVELSICKLE_POINT:
+        printf("point x = %g, y = %g", answer->x, answer->y);
+        break;
+    case RAVELSICKLE_LEVEL:
+        printf("level y = %g, whatever x is", answer->y);
+        break;
+    case RAVELSICKLE_ACROSS:
+        printf("across at x = %g", answer->x);
+        break;
+    default:
+        printf("nothing");
+        break;
+    }
+    print_row("first", answer->has_first, answer->first);
+    print_row("second", answer->has_second, answer->second);
+    printf(", readings %" PRIu64 "\n", answer->count);
+}
+
+static void solve_and_print(const char *what, struct ravelsickle_row *rows, size_t n, uint64_t allowance) {
+    struct ravelsickle_task task = ravelsickle_usual_task();
+    struct ravelsickle_answer answer = ravelsickle_no_answer();
+    uint64_t number;
+    task.normalize = true;
+    task.allowance = allowance;
+    number = ravelsickle_solve_task(rows, n, &task, &answer);
+    printf("%s: ", what);
+    if (number == 0) {
+        print_answer(&answer);
+    } else if (number == RAVELSICKLE_STOPPED) {
+        printf("not finished within %" PRIu64 " readings\n", answer.count);
+    } else {
+        printf("refused %" PRIu64 "\n", number);
+    }
+}
+
+int main(void) {
+    /* accelerating and braking fall off with speed; the third row is the ceiling of a slow joint */
+    struct ravelsickle_row limits[3] = {{1, 0.5, 8}, {-1, 0.5, 8}, {0, 1, 12}};
+    struct ravelsickle_row without_ceiling[2] = {{1, 0.5, 8}, {-1, 0.5, 6}};
+    struct ravelsickle_row ceiling[1] = {{0, 2, 6}};
+    solve_and_print("three limits", limits, 3, 1000);
+    solve_and_print("without the ceiling", without_ceiling, 2, 1000);
+    solve_and_print("the ceiling alone", ceiling, 1, 1000);
+    solve_and_print("too few readings", limits, 3, 5);
+    return 0;
+}

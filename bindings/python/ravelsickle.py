@@ -1,0 +1,493 @@
+"""Ravelsickle for Python: the highest y under half-planes a*x + b*y <= c, within a number of row readings that is known
+beforehand.
+
+    >>> import ravelsickle
+    >>> rows = [(1.0, 1.0, 2.0), (-1.0, 1.0, 0.0)]
+    >>> ravelsickle.solve(rows, allowance=1000)
+    Solved(answer=Answer(x=1.0, y=1.0), active=(0, 1), count=7)
+
+Rows are given in one of three ways, and are changed in place where they are normalised, as in the original:
+
+* a buffer of C doubles, contiguous and writable (a numpy array of float64 of any shape, an array.array('d'), a
+  memoryview): nothing is copied;
+* a list of floats, three to a row: changed floats are written back into the list;
+* a list of rows of three floats: changed rows are written back, a list in place and a tuple as a new tuple.
+
+An entry that only reads (lp_1d, recover) takes a read-only buffer or a tuple as well.
+
+"No row" is None. A number that an answer does not have is None. A call that gives no answer raises Refusal, whose
+`number` is the refusal's number.
+
+The entries are called in a shared object linked from the static library that `rt staticlib kernel` writes; bindings/run
+links it. RAVELSICKLE_SHARED names another one.
+"""
+
+import ctypes
+import os
+import sys
+from array import array
+from dataclasses import dataclass
+from pathlib import Path
+from typing import Optional, Tuple
+
+__all__ = [
+    "BEYOND",
+    "ROW_LIMIT",
+    "UNLIMITED",
+    "Answer",
+    "Bounds",
+    "Collector",
+    "Frame",
+    "Refusal",
+    "Solved",
+    "Tolerances",
+    "WarmStart",
+    "fused",
+    "lp_1d",
+    "lp_2d_incre_max_y",
+    "normalize",
+    "recover",
+    "root",
+    "solve",
+    "solve_2x2",
+]
+
+# The most rows, or pairs, that an entry takes.
+ROW_LIMIT = 4096
+
+# A start level that means "beyond the set": a solve that begins there may move up to the edge of a larger box.
+BEYOND = 1e6
+
+# The largest allowance. No solve takes as many readings.
+UNLIMITED = 2**64 - 1
+
+
+@dataclass(frozen=True)
+class WarmStart:
+    """Where a solve starts, and how many leading rows that point is known to meet."""
+
+    x: float = 0.0
+    y: float = BEYOND
+    skip: int = 0
+
+
+@dataclass(frozen=True)
+class Tolerances:
+    """By how much a point may violate a row, and what multiplies that in a reduction to one dimension. The values are
+    those of the original's builder."""
+
+    feasibility: float = 1e-9
+    scale: float = 10.0
+
+
+@dataclass(frozen=True)
+class Frame:
+    """What a recovery is posed in: half the width of the box, and by how much a point may violate a row, in the plane
+    and in a reduction to one dimension."""
+
+    bound: float
+    epsilon: float
+    reduced: float
+
+
+@dataclass(frozen=True)
+class Answer:
+    """A point has x and y, a level y alone, across x alone, nothing neither. Infinite numbers are numbers."""
+
+    x: Optional[float]
+    y: Optional[float]
+
+    @property
+    def kind(self) -> str:
+        """The answer in a word: point, level, across or nothing."""
+        if self.x is None:
+            return "nothing" if self.y is None else "level"
+        return "across" if self.y is None else "point"
+
+
+@dataclass(frozen=True)
+class Solved:
+    """A finished solve: its answer, the first and the second active row, and the row readings that it took."""
+
+    answer: Answer
+    active: Tuple[Optional[int], Optional[int]]
+    count: int
+
+
+@dataclass(frozen=True)
+class Bounds:
+    """The highest and the lowest t of a line; both NaN where there is none."""
+
+    high: float
+    low: float
+
+
+@dataclass
+class Collector:
+    """The active rows of a caller, which a recovery changes where it finds others."""
+
+    first: Optional[int] = None
+    second: Optional[int] = None
+
+
+class Refusal(Exception):
+    """An entry gave no answer. `number` says why; `count` is the readings of a solve that was stopped, else None."""
+
+    def __init__(self, number: int, count: Optional[int] = None):
+        self.number = number
+        self.count = count
+        super().__init__(f"refusal {number}: {_REASONS.get(number, 'a number that this module does not know')}")
+
+
+_REASONS = {
+    1: "the floats lent are no whole rows or pairs",
+    2: f"more than {ROW_LIMIT} rows or pairs",
+    3: "the solve needs more readings than its allowance",
+    4: "no return after the last box, which is proved never to come",
+    5: "the two equations have no reliable crossing",
+    6: "recovery found no point",
+    7: "the prefix is longer than the rows",
+}
+
+
+# ---- The shared object ----
+
+_double = ctypes.c_double
+_number = ctypes.c_uint64
+_size = ctypes.c_size_t
+_flag = ctypes.c_bool
+_floats = ctypes.POINTER(ctypes.c_double)
+_to = ctypes.POINTER
+
+# What every solve is given after its rows, up to whether to normalise.
+_TASK = [_double, _double, _double, _double, _size, _flag]
+_ANSWER = [_to(_number), _to(_double), _to(_double)]
+_ROWS_HELD = [_to(_flag), _to(_size), _to(_flag), _to(_size)]
+
+# Every entry: what it returns, and its arguments.
+_ENTRIES = {
+    "ravelsickle_root": (_double, [_double]),
+    "ravelsickle_fused": (_double, [_double] * 3),
+    "ravelsickle_normalize": (_number, [_floats, _size]),
+    "ravelsickle_solve_2x2": (_number, [_double] * 6 + [_to(_double)] * 2),
+    "ravelsickle_lp_1d": (_number, [_floats, _size, _flag, _double, _double] + [_to(_double)] * 2),
+    "ravelsickle_solve": (_number, [_floats, _size] + _TASK + [_number] + _ANSWER + _ROWS_HELD + [_to(_number)]),
+    # an array of rows is the same memory as its floats, so the pointer is to floats and the size counts rows
+    "ravelsickle_solve_rows": (_number, [_floats, _size] + _TASK + [_number] + _ANSWER + _ROWS_HELD + [_to(_number)]),
+    "ravelsickle_lp_2d_incre_max_y": (_number, [_floats, _size] + _TASK + _ANSWER),
+    "ravelsickle_recover_2d_prefix": (
+        _number,
+        [_floats, _size, _size] + [_double] * 5 + [_to(_double)] * 2 + _ROWS_HELD,
+    ),
+}
+
+
+def _shared_object() -> Path:
+    named = os.environ.get("RAVELSICKLE_SHARED")
+    if named:
+        return Path(named)
+    return Path(__file__).resolve().parents[2] / "target" / "bindings" / "libravelsickle.so"
+
+
+def _load(path: Path) -> ctypes.CDLL:
+    if not path.is_file():
+        raise ImportError(
+            f"there is no Ravelsickle library at {path}: bindings/run links it from the static library; "
+            "RAVELSICKLE_SHARED names another one"
+        )
+    try:
+        library = ctypes.CDLL(str(path))
+    except OSError as error:
+        raise ImportError(f"the Ravelsickle library at {path} is not one for this processor: {error}") from error
+    for name, (result, arguments) in _ENTRIES.items():
+        if not hasattr(library, name):
+            raise ImportError(f"the Ravelsickle library at {path} has no {name}: it is older than this module")
+        entry = getattr(library, name)
+        entry.restype = result
+        entry.argtypes = arguments
+    return library
+
+
+_library = _load(_shared_object())
+
+
+# ---- Floats lent to an entry ----
+
+
+class _Buffer:
+    """The memory of a buffer, lent as it is."""
+
+    # Whether the rows are whole because of how they are given.
+    by_rows = False
+
+    def __init__(self, view: memoryview):
+        self.count = view.nbytes // view.itemsize
+        self.memory = (ctypes.c_double * self.count).from_buffer(view)
+
+    def give_back(self) -> None:
+        """Nothing: the entry changed the memory itself."""
+
+
+class _Copy:
+    """A copy of floats, lent in the place of a list, which Python alone can change."""
+
+    def __init__(self, floats):
+        self.count = len(floats)
+        self.memory = (ctypes.c_double * self.count)(*floats)
+        self.before = bytes(self.memory)
+
+    def is_changed(self) -> bool:
+        return bytes(self.memory) != self.before
+
+
+class _FlatList(_Copy):
+    """The floats of a list, written back where the entry changed any."""
+
+    by_rows = False
+
+    def __init__(self, floats: list):
+        super().__init__(floats)
+        self.floats = floats
+
+    def give_back(self) -> None:
+        if self.is_changed():
+            self.floats[:] = self.memory
+
+
+class _ListOfRows(_Copy):
+    """The floats of a list of rows, written back where the entry changed any: into a row that is a list, and in the
+    place of one that is a tuple."""
+
+    by_rows = True
+
+    def __init__(self, rows: list):
+        super().__init__([x for row in rows for x in row])
+        self.rows = rows
+
+    def give_back(self) -> None:
+        if self.is_changed():
+            for k, row in enumerate(self.rows):
+                changed = self.memory[3 * k : 3 * k + 3]
+                if isinstance(row, list):
+                    row[:] = changed
+                else:
+                    self.rows[k] = tuple(changed)
+
+
+def _view(rows) -> Optional[memoryview]:
+    """The buffer of something that has one, checked to be whole doubles one after another."""
+    try:
+        view = memoryview(rows)
+    except TypeError:
+        return None
+    native = {"d", "@d", "=d", "<d" if sys.byteorder == "little" else ">d"}
+    if view.format not in native:
+        raise TypeError(f"the buffer holds elements of format {view.format!r}; rows are float64, format 'd'")
+    if not view.c_contiguous:
+        raise ValueError("the buffer is not contiguous: its floats have to lie one after another")
+    return view
+
+
+def _is_row(item) -> bool:
+    return isinstance(item, (list, tuple))
+
+
+def _lend_list(rows: list, width: int):
+    if not any(_is_row(item) for item in rows):
+        return _FlatList(rows)
+    for item in rows:
+        if not _is_row(item) or len(item) != width:
+            raise ValueError(f"a list of rows has {width} floats in each; it has {item!r}")
+    return _ListOfRows(rows)
+
+
+def _lend(rows):
+    """Rows that the entry may change."""
+    view = _view(rows)
+    if view is not None:
+        if view.readonly:
+            raise ValueError("the buffer is read-only: rows are changed in place")
+        return _Buffer(view)
+    if isinstance(rows, list):
+        return _lend_list(rows, 3)
+    raise TypeError(f"rows are a list or a writable buffer of float64, not {type(rows).__name__}")
+
+
+def _writable_copy(view: memoryview) -> memoryview:
+    """A copy of what is read-only, since ctypes lends only what is writable."""
+    copy = array("d")
+    copy.frombytes(view.tobytes())
+    return memoryview(copy)
+
+
+def _lend_to_read(floats, width: int):
+    """Rows or pairs that the entry only reads."""
+    view = _view(floats)
+    if view is not None:
+        return _Buffer(_writable_copy(view) if view.readonly else view)
+    if isinstance(floats, (list, tuple)):
+        return _lend_list(list(floats), width)
+    raise TypeError(f"rows are a list, a tuple or a buffer of float64, not {type(floats).__name__}")
+
+
+# ---- Numbers lent to an entry ----
+
+
+class _Slot:
+    """A row's number and the flag that says whether there is one."""
+
+    def __init__(self, row: Optional[int] = None):
+        self.held = _flag(row is not None)
+        self.row = _size(0 if row is None else _index(row, "a row's number"))
+
+    def get(self) -> Optional[int]:
+        return self.row.value if self.held.value else None
+
+
+def _index(value: int, what: str) -> int:
+    """A whole number that a size_t holds; ctypes would cut any other to fit."""
+    return _whole(value, what, 8 * ctypes.sizeof(_size))
+
+
+def _whole(value: int, what: str, width: int) -> int:
+    if isinstance(value, float) or not 0 <= value < 2**width:
+        raise ValueError(f"{what} is a whole number from 0 to 2^{width} - 1, not {value!r}")
+    return int(value)
+
+
+def _task(start: WarmStart, tolerances: Tolerances, normalize: bool) -> tuple:
+    skip = _index(start.skip, "the number of rows to skip")
+    return (tolerances.feasibility, tolerances.scale, start.x, start.y, skip, bool(normalize))
+
+
+def _answer(kind: int, x: float, y: float) -> Answer:
+    """The answer of a kind's number, with the pair beside it."""
+    answers = {0: Answer(x, y), 1: Answer(None, y), 2: Answer(x, None), 3: Answer(None, None)}
+    if kind not in answers:
+        raise RuntimeError(f"the library gave an answer of kind {kind}: it is newer than this module")
+    return answers[kind]
+
+
+def _check(number: int, count: Optional[int] = None) -> None:
+    if number != 0:
+        raise Refusal(number, count if number in (3, 4) else None)
+
+
+# ---- The entries ----
+
+
+def root(x: float) -> float:
+    """The square root, rounded once. NaN for a number below zero; -0 for -0."""
+    return _library.ravelsickle_root(x)
+
+
+def fused(x: float, y: float, z: float) -> float:
+    """x*y + z, rounded once."""
+    return _library.ravelsickle_fused(x, y, z)
+
+
+def normalize(rows) -> None:
+    """Scales the rows in place to unit normals. A row whose norm is zero or not finite becomes zeros.
+
+    Refusals 1 and 2 leave the rows."""
+    lent = _lend(rows)
+    number = _library.ravelsickle_normalize(lent.memory, lent.count)
+    lent.give_back()
+    _check(number)
+
+
+def solve_2x2(r, s) -> Tuple[float, float]:
+    """The point (x, y) on the boundaries of both rows, each given as its three floats. Refusal 5."""
+    (a0, b0, c0), (a1, b1, c1) = r, s
+    x, y = _double(), _double()
+    _check(_library.ravelsickle_solve_2x2(a0, b0, c0, a1, b1, c1, x, y))
+    return x.value, y.value
+
+
+def lp_1d(pairs, autonan: bool, tolerances: Tolerances = Tolerances()) -> Bounds:
+    """The highest and the lowest t with a*t <= b for every pair (a, b); infinite where no pair bounds it. With autonan a
+    high below the low becomes the middle of both where they are within the tolerance of each other, else NaN.
+
+    Refusals 1 and 2."""
+    lent = _lend_to_read(pairs, 2)
+    high, low = _double(), _double()
+    _check(
+        _library.ravelsickle_lp_1d(
+            lent.memory, lent.count, bool(autonan), tolerances.feasibility, tolerances.scale, high, low
+        )
+    )
+    return Bounds(high.value, low.value)
+
+
+def solve(
+    rows,
+    start: WarmStart = WarmStart(),
+    tolerances: Tolerances = Tolerances(),
+    normalize: bool = False,
+    allowance: int = UNLIMITED,
+) -> Solved:
+    """The highest y under the rows, the rows that hold it, and the readings it took, of which `allowance` are allowed.
+
+    Refusals 1 and 2 leave the rows; refusal 3 leaves them as after the last normalisation all of whose readings
+    fitted."""
+    task = _task(start, tolerances, normalize)
+    allowed = _whole(allowance, "an allowance", 64)
+    lent = _lend(rows)
+    if lent.by_rows:
+        entry, size = _library.ravelsickle_solve_rows, lent.count // 3
+    else:
+        entry, size = _library.ravelsickle_solve, lent.count
+    kind, x, y, count = _number(), _double(), _double(), _number()
+    first, second = _Slot(), _Slot()
+    number = entry(
+        lent.memory, size, *task, allowed, kind, x, y, first.held, first.row, second.held, second.row, count
+    )
+    lent.give_back()
+    _check(number, count.value)
+    return Solved(_answer(kind.value, x.value, y.value), (first.get(), second.get()), count.value)
+
+
+def lp_2d_incre_max_y(
+    rows, start: WarmStart = WarmStart(), tolerances: Tolerances = Tolerances(), normalize: bool = False
+) -> Answer:
+    """The original's own entry: the answer of solve without allowance, active rows or count.
+
+    Refusals 1 and 2 leave the rows."""
+    task = _task(start, tolerances, normalize)
+    lent = _lend(rows)
+    kind, x, y = _number(), _double(), _double()
+    number = _library.ravelsickle_lp_2d_incre_max_y(lent.memory, lent.count, *task, kind, x, y)
+    lent.give_back()
+    _check(number)
+    return _answer(kind.value, x.value, y.value)
+
+
+def recover(rows, upto: int, at: Tuple[float, float], frame: Frame, collector: Collector) -> Tuple[float, float]:
+    """A point (x, y) that holds for the first `upto` rows, after a solve's usual step failed at the point `at`. The
+    collector then holds the point's active rows, or is as before where the point is `at` itself and no row's boundary
+    gave one.
+
+    Refusals 1, 2, 7 and 6, which leave the collector."""
+    prefix = _index(upto, "a prefix")
+    first, second = _Slot(collector.first), _Slot(collector.second)
+    lent = _lend_to_read(rows, 3)
+    x, y = _double(), _double()
+    _check(
+        _library.ravelsickle_recover_2d_prefix(
+            lent.memory,
+            lent.count,
+            prefix,
+            *at,
+            frame.bound,
+            frame.epsilon,
+            frame.reduced,
+            x,
+            y,
+            first.held,
+            first.row,
+            second.held,
+            second.row,
+        )
+    )
+    collector.first, collector.second = first.get(), second.get()
+    return x.value, y.value
