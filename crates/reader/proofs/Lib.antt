@@ -1,0 +1,12 @@
+pub mod Kept
+pub mod Progress
+pub mod Alike
+pub mod Held
+pub mod Printed
+pub mod Turns
+pub mod Underway
+pub mod Cut
+pub mod Empty
+pub mod Texts
+pub mod Sample
+pub mod Nothing

@@ -1,0 +1,95 @@
+-- Laws of what a whole input prints: a first record that is all there prints its line, and then what the rest prints; one that is not ends it.
+use mathlib.Core.Path.{_≡_, refl, sym, ap, _∙_}
+use mathlib.Core.Bool.{true, false, not, and-false, true≢false}
+use mathlib.Core.List.{List, [], _∷_, _++_}
+use Prim.Native.Nat.{ℕ, zero, suc, _+_, _≤_, _<_, _^_}
+use native.Mathlib.Decide.{decLe}
+use native.Mathlib.Omega.{arith}
+use lib.Dec.{ltb, eqb·suc-zero}
+use borrow.Author.Tests.{lt-ltb, le-ltb}
+use lib.ListN.{length, take, drop, length-drop}
+use Rattle.float.specs.Operators.{if_then_else_}
+use Rattle.lines.specs.Lines.{outcomeLine}
+use Rattle.record.specs.Record.{size, outcome}
+use Rattle.reader.specs.Stream.{whole, ending, printed, output}
+use Rattle.reader.specs.Reader.{lastText}
+use Rattle.reader.proofs.Held.{reading}
+
+-- ---- whether the first record is all there
+
+module _ (bytes : List ℕ) where
+  pub has-header : 6 ≤ size bytes
+  unfolding size
+  has-header = omega arith
+
+  is-whole : size bytes ≤ length bytes → whole bytes ≡ true
+  unfolding whole
+  is-whole h = rw (le-ltb (length bytes) 6 (omega (arith, has-header)), le-ltb (length bytes) (size bytes) h)
+
+  pub is-cut : length bytes < size bytes → whole bytes ≡ false
+  unfolding whole
+  is-cut h = rw (lt-ltb (length bytes) (size bytes) h) (and-false (not (ltb (length bytes) 6)))
+
+  pub was-whole : whole bytes ≡ true → size bytes ≤ length bytes
+  was-whole e = elim (decLe (size bytes) (length bytes)) [ yes h ↦ h | no h ↦ absurd (true≢false (sym e ∙ is-cut (omega arith))) ]
+
+  pub was-cut : whole bytes ≡ false → length bytes < size bytes
+  was-cut e = elim (decLe (size bytes) (length bytes)) [ yes h ↦ absurd (true≢false (sym (is-whole h) ∙ e)) | no h ↦ omega arith ]
+
+-- ---- with so many turns
+
+module _ (turns n : ℕ) (bytes : List ℕ) where
+  printed-whole : size bytes ≤ length bytes → printed (suc turns) n bytes ≡ outcomeLine (n + 1) (outcome bytes) ++ printed turns (n + 1) (drop (size bytes) bytes)
+  unfolding printed if_then_else_
+  printed-whole h = rw (is-whole bytes h)
+
+printed-cut : (turns n : ℕ) (bytes : List ℕ) → length bytes < size bytes → printed turns n bytes ≡ ending n bytes
+unfolding printed if_then_else_
+printed-cut zero n bytes h = refl
+printed-cut (suc turns) n bytes h = rw (is-cut bytes h)
+
+-- as many as there are bytes are enough, and more change nothing
+pub enough : (j k n : ℕ) (bytes : List ℕ) → length bytes ≤ j → length bytes ≤ k → printed j n bytes ≡ printed k n bytes
+enough zero k n bytes hj hk =
+    let short : length bytes < size bytes = omega (arith, has-header bytes) in
+    printed-cut zero n bytes short ∙ sym (printed-cut k n bytes short)
+enough (suc j) zero n bytes hj hk =
+    let short : length bytes < size bytes = omega (arith, has-header bytes) in
+    printed-cut (suc j) n bytes short ∙ sym (printed-cut zero n bytes short)
+enough (suc j) (suc k) n bytes hj hk =
+    let rest = drop (size bytes) bytes in
+    let left = length-drop (size bytes) bytes in
+    let header = has-header bytes in
+    elim (decLe (size bytes) (length bytes)) [
+      | yes h ↦
+          printed-whole j n bytes h
+          ∙ ap (λ (l : List ℕ). outcomeLine (n + 1) (outcome bytes) ++ l) (enough j k (n + 1) rest (omega arith) (omega arith))
+          ∙ sym (printed-whole k n bytes h)
+      | no h ↦ printed-cut (suc j) n bytes (omega arith) ∙ sym (printed-cut (suc k) n bytes (omega arith))
+    ]
+
+-- ---- with enough turns
+
+abbrev pub prints : ℕ → List ℕ → List ℕ
+prints n bytes = printed (length bytes) n bytes
+
+module _ (n : ℕ) (bytes : List ℕ) where
+  pub prints-whole : size bytes ≤ length bytes → prints n bytes ≡ outcomeLine (n + 1) (outcome bytes) ++ prints (n + 1) (drop (size bytes) bytes)
+  prints-whole h =
+      let rest = drop (size bytes) bytes in
+      enough (length bytes) (suc (length bytes)) n bytes (omega arith) (omega arith)
+      ∙ printed-whole (length bytes) n bytes h
+      ∙ ap (λ (l : List ℕ). outcomeLine (n + 1) (outcome bytes) ++ l) (enough (length bytes) (length rest) (n + 1) rest (omega (arith, length-drop (size bytes) bytes)) (omega arith))
+
+  pub prints-cut : length bytes < size bytes → prints n bytes ≡ ending n bytes
+  prints-cut h = printed-cut (length bytes) n bytes h
+
+pub output-prints : (input : List ℕ) → output input ≡ prints 0 (take (2 ^ 63) input)
+unfolding output
+output-prints input = refl
+
+-- where the input ends, the reader prints what is printed there
+pub ends : (n : ℕ) (seen : List ℕ) → lastText (reading n seen) ≡ ending n seen
+unfolding lastText ending if_then_else_
+ends n [] = refl
+ends n (b ∷ seen) = rw (eqb·suc-zero (length seen))

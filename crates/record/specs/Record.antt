@@ -1,0 +1,65 @@
+-- A record of document 01: a header of 6 bytes, the body's length and the kind, and a body; and what comes of it. Assumes nothing.
+use Prim.Native.Nat.{ℕ, _+_, _-_, _/_, _%_}
+use mathlib.Core.Bool.{not, _||_}
+use mathlib.Core.List.{List}
+use lib.Dec.{eqb, ltb}
+use lib.ListN.{drop}
+use lib.Ieee.{Float}
+use Rattle.float.specs.Operators.{if_then_else_}
+use Rattle.solve.specs.declared.Normalize.{Normalize}
+use Rattle.solve.specs.declared.Normalize.the-variants.{Off, Source}
+use Rattle.solve.specs.declared.Task.{Task}
+use Rattle.solve.specs.declared.Outcome.{Outcome}
+use Rattle.solve.specs.declared.Outcome.the-variants.{Refused}
+use Rattle.solve.specs.Solve.{solve}
+use Rattle.record.specs.Bytes.{field, float, floats}
+
+-- ---- the header
+
+unfoldable pub bodyLength : List ℕ → ℕ
+bodyLength bytes = field 4 0 bytes
+
+unfoldable pub kind : List ℕ → ℕ
+kind bytes = field 2 4 bytes
+
+-- how many bytes the record has
+unfoldable pub size : List ℕ → ℕ
+size bytes = 6 + bodyLength bytes
+
+-- ---- the body of a record of kind 1, which begins at byte 6: fields of 49 bytes, then rows of 24
+
+unfoldable pub normalizeByte : List ℕ → ℕ
+normalizeByte bytes = field 1 54 bytes
+
+unfoldable pub mode : ℕ → Normalize
+mode byte = if eqb byte 0 then Off else Source
+
+unfoldable pub task : List ℕ → Task
+task bytes =
+    record {
+      tol = record { feasibility = float 6 bytes; scale = float 14 bytes };
+      start = record { x = float 22 bytes; y = float 30 bytes; skip = field 8 38 bytes };
+      normalize = mode (normalizeByte bytes);
+    }
+
+unfoldable pub allowance : List ℕ → ℕ
+allowance bytes = field 8 46 bytes
+
+unfoldable pub rowFloats : List ℕ → List Float
+rowFloats bytes = floats ((bodyLength bytes - 49) / 8) (drop 55 bytes)
+
+-- ---- what comes of a record that is all there
+
+-- refusals 9, 10 and 2, in that order, by the kind, the body's length and the normalise byte; 0 where there is something to solve
+unfoldable pub refusal : ℕ → ℕ → ℕ → ℕ
+refusal kind length byte =
+    if not (eqb kind 1) then 9
+    else if ltb length 49 || not (eqb ((length - 49) % 24) 0) || ltb 1 byte then 10
+    else if ltb 2048 ((length - 49) / 24) then 2
+    else 0
+
+unfoldable pub outcome : List ℕ → Outcome
+outcome bytes =
+    let number = refusal (kind bytes) (bodyLength bytes) (normalizeByte bytes) in
+    let solved = solve (task bytes) (allowance bytes) (rowFloats bytes) .outcome in
+    if eqb number 0 then solved else Refused number

@@ -1,0 +1,160 @@
+// A record's bytes, and what comes of them.
+use line::Tolerances;
+use solve::Normalize;
+use solve::Outcome;
+use solve::Task;
+use solve::WarmStart;
+ghost use mathlib.Core.Path.{_≡_};
+ghost use Prim.Native.Nat.{_+_, _≤_, _<_, _^_};
+ghost use lib.ListN.{length, take, drop};
+ghost use Rattle.record.specs.Bytes.{field, float, floats};
+ghost use Rattle.record.specs.Record.{bodyLength, kind, normalizeByte, mode, task, refusal, outcome};
+
+// The longest record that is solved: a header of 6 bytes, fields of 49, and 2,048 rows of 24.
+pub const LONGEST: usize = 49207;
+
+// ---- numbers, the lowest byte first
+
+fn wide(byte: u8) -> u64
+    ensures value { λ r. ⌜ r ≡ byte ⌝ }
+    ensures small { λ r. ⌜ r < 256 ⌝ }
+{
+    byte as u64
+}
+
+fn le16(bytes: &[u8; LONGEST], at: usize) -> u64
+    requires { ⌜ at + 2 ≤ 49207 ⌝ }
+    ensures value { λ r. ⌜ r ≡ field 2 at (now (bytes .entry)) ⌝ }
+    ensures small { λ r. ⌜ r < 2 ^ 16 ⌝ }
+{
+    wide(bytes[at]) + wide(bytes[at + 1]) * 0x100
+}
+
+fn le32(bytes: &[u8; LONGEST], at: usize) -> u64
+    requires { ⌜ at + 4 ≤ 49207 ⌝ }
+    ensures value { λ r. ⌜ r ≡ field 4 at (now (bytes .entry)) ⌝ }
+    ensures small { λ r. ⌜ r < 2 ^ 32 ⌝ }
+{
+    le16(bytes, at) + le16(bytes, at + 2) * 0x1_0000
+}
+
+fn le64(bytes: &[u8; LONGEST], at: usize) -> u64
+    requires { ⌜ at + 8 ≤ 49207 ⌝ }
+    ensures { λ r. ⌜ r ≡ field 8 at (now (bytes .entry)) ⌝ }
+{
+    le32(bytes, at) + le32(bytes, at + 4) * 0x1_0000_0000
+}
+
+fn float_at(bytes: &[u8; LONGEST], at: usize) -> f64
+    requires { ⌜ at + 8 ≤ 49207 ⌝ }
+    ensures { λ r. ⌜ r ≡ float at (now (bytes .entry)) ⌝ }
+{
+    float::float_of(le64(bytes, at))
+}
+
+// The first n floats from byte 55 on, where a record's rows begin.
+fn read_floats(bytes: &[u8; LONGEST], out: &mut [f64], n: usize)
+    requires { ⌜ n ≤ 6144 ⌝ }
+    requires { ⌜ n ≤ length (now out) ⌝ }
+    ensures { λ _. ⌜ take n (now (out .exit)) ≡ floats n (drop 55 (now (bytes .entry))) ⌝ }
+{
+    let mut i = 0;
+    while i < n {
+        out[i] = float_at(bytes, 55 + 8 * i);
+        i += 1;
+    }
+}
+
+// ---- the header
+
+pub fn body_length(bytes: &[u8; LONGEST]) -> u64
+    ensures value { λ r. ⌜ r ≡ bodyLength (now (bytes .entry)) ⌝ }
+    ensures small { λ r. ⌜ r < 2 ^ 32 ⌝ }
+{
+    le32(bytes, 0)
+}
+
+pub fn kind_of(bytes: &[u8; LONGEST]) -> u64
+    ensures { λ r. ⌜ r ≡ kind (now (bytes .entry)) ⌝ }
+{
+    le16(bytes, 4)
+}
+
+fn normalize_byte(bytes: &[u8; LONGEST]) -> u64
+    ensures { λ r. ⌜ r ≡ normalizeByte (now (bytes .entry)) ⌝ }
+{
+    wide(bytes[54])
+}
+
+// ---- what comes of a record
+
+// Refusal 9, 10 or 2 by the kind, the body's length and the normalise byte; 0 where there is something to solve.
+pub fn refusal(kind: u64, length: u64, byte: u64) -> u64
+    ensures { λ r. ⌜ r ≡ refusal kind length byte ⌝ }
+{
+    if kind != 1 {
+        return 9;
+    }
+    if length < 49 {
+        return 10;
+    }
+    let rest = length - 49;
+    if rest % 24 != 0 {
+        return 10;
+    }
+    if byte > 1 {
+        return 10;
+    }
+    if rest / 24 > 2048 {
+        return 2;
+    }
+    0
+}
+
+// The same, of the record that is held.
+fn refusal_of(bytes: &[u8; LONGEST]) -> u64
+    ensures { λ r. ⌜ r ≡ refusal (kind (now (bytes .entry))) (bodyLength (now (bytes .entry))) (normalizeByte (now (bytes .entry))) ⌝ }
+{
+    refusal(kind_of(bytes), body_length(bytes), normalize_byte(bytes))
+}
+
+fn mode_of(byte: u64) -> Normalize
+    ensures { λ r. ⌜ r ≡ mode byte ⌝ }
+{
+    if byte == 0 {
+        return Normalize::Off;
+    }
+    Normalize::Source
+}
+
+fn task_of(bytes: &[u8; LONGEST]) -> Task
+    ensures { λ t. ⌜ t ≡ task (now (bytes .entry)) ⌝ }
+{
+    let mode = mode_of(normalize_byte(bytes));
+    Task {
+        tol: Tolerances {
+            feasibility: float_at(bytes, 6),
+            scale: float_at(bytes, 14),
+        },
+        start: WarmStart {
+            x: float_at(bytes, 22),
+            y: float_at(bytes, 30),
+            skip: le64(bytes, 38) as usize,
+        },
+        normalize: mode,
+    }
+}
+
+// What comes of the record that is held; `floats` is room for its rows.
+pub fn outcome_of(bytes: &[u8; LONGEST], floats: &mut [f64]) -> Outcome
+    requires { ⌜ 6144 ≤ length (now floats) ⌝ }
+    ensures { λ r. ⌜ r ≡ outcome (now (bytes .entry)) ⌝ }
+{
+    let number = refusal_of(bytes);
+    if number != 0 {
+        return Outcome::Refused(number);
+    }
+    let n = ((body_length(bytes) - 49) / 8) as usize;
+    read_floats(bytes, floats, n);
+    solve::solve(&mut floats[..n], task_of(bytes), le64(bytes, 46))
+}
