@@ -17,6 +17,7 @@ use Rattle.line.specs.declared.Span.{Span}
 use Rattle.line.specs.declared.Narrowed.the-variants.{Empty, Kept}
 use Rattle.line.specs.declared.Reduced.the-variants.{Done, Spent}
 use Rattle.line.specs.Line.{wholeLine, void, narrow, meeting, lp1dCore, reduced}
+use Rattle.line.proofs.Select.{span}
 
 -- ---- what an answer says of the definition
 
@@ -32,9 +33,9 @@ was-spent stopped e = refl
 
 -- ---- where the code begins, and one turn
 
-pub whole-line : (top : Float) (act : Active) → top ≡ inf false → record { high = top; low = neg top; active = act } ≡ wholeLine act
+pub whole-line : {top : Float} {start act : Active} → top ≡ inf false → start ≡ act → span top (neg top) (start .first) (start .second) ≡ wholeLine act
 unfolding wholeLine neg
-whole-line top act e = rw e
+whole-line e f = rw (e, f)
 
 module _ (autonan cancel : Bool) (ε : Float) (t : Term) (ts : List Term) (k : ℕ) (v : Span) where
   pub kept : (w : Span) → narrow cancel ε k t v ≡ Kept w → lp1dCore autonan cancel ε (t ∷ ts) k v ≡ (read 1 >> lp1dCore autonan cancel ε ts (k + 1) w)

@@ -15,6 +15,8 @@ use Rattle.line.specs.Active.{noRows, setFirst, setSecond}
 use Rattle.line.specs.declared.Active.{Active}
 use Rattle.line.specs.declared.Term.{Term}
 use Rattle.line.specs.declared.Span.{Span}
+use Rattle.line.specs.declared.Cut.{Cut}
+use Rattle.line.specs.declared.Cut.the-variants.{Nothing, All, Above, Below}
 use Rattle.line.specs.declared.Narrowed.{Narrowed}
 use Rattle.line.specs.declared.Narrowed.the-variants.{Empty, Kept}
 use Rattle.line.specs.declared.Reduced.{Reduced}
@@ -74,7 +76,21 @@ unfoldable pub onLine : Bool → Float → Float → Row → Term
 onLine true = onY
 onLine false = onX
 
--- what the code gives back
+-- ---- what the code gives back
+
+-- what a term cuts off the numbers from `low` to `high`, and a span without what term k cuts off
+unfoldable pub cutOff : Bool → Float → Term → Float → Float → Cut
+cutOff cancel ε t high low =
+    if coefficientIsZero cancel t then (if t .b ≺ neg ε then All else Nothing)
+    else if t .a ≻ zero then (if t .b ≺ high ⊗ t .a then Above (t .b ⊘ t .a) else Nothing)
+    else if t .b ≺ low ⊗ t .a then Below (t .b ⊘ t .a) else Nothing
+
+unfoldable pub without : ℕ → Cut → Span → Narrowed
+without k Nothing s = Kept s
+without k All s = Empty
+without k (Above v) s = Kept (record { high = v; low = s .low; active = setFirst k (s .active) })
+without k (Below v) s = Kept (record { high = s .high; low = v; active = setSecond k (s .active) })
+
 unfoldable pub reduced : Paid Span → Reduced
 reduced (paid s left) = reduced-is.Done s left
 reduced stopped = reduced-is.Spent

@@ -5,11 +5,10 @@ ghost use mathlib.Core.Bool.{true, false};
 ghost use mathlib.Core.List.{map};
 ghost use Prim.Native.Nat.{_+_, _*_, _≤_, _<_};
 ghost use lib.ListN.{length, take};
-ghost use Rattle.float.specs.Operators.{if_then_else_};
 ghost use Rattle.readings.specs.Readings.{within};
 ghost use Rattle.rows.specs.Rows.{rowsOf};
 ghost use Rattle.line.specs.Active.{noRows, setFirst, setSecond};
-ghost use Rattle.line.specs.Line.{wholeLine, void, coefficientIsZero, narrow, meeting, lp1dCore, onLine, reduced, pairsOf, pairAt, lp1d};
+ghost use Rattle.line.specs.Line.{wholeLine, void, coefficientIsZero, cutOff, meeting, lp1dCore, onLine, reduced, pairsOf, pairAt, lp1d};
 
 // The place for an active row. "No row" is a case of its own and no number.
 pub enum Slot {
@@ -35,6 +34,14 @@ pub struct Span {
     pub high: f64,
     pub low: f64,
     pub active: Active,
+}
+
+// What a term cuts off a span: nothing, all of it, or what lies above or below a number.
+pub enum Cut {
+    Nothing,
+    All,
+    Above(f64),
+    Below(f64),
 }
 
 // What a term leaves of a span.
@@ -92,6 +99,30 @@ pub fn set_second(k: usize, act: Active) -> Active
     }
 }
 
+// The same slots, each written anew: the built code then moves a tag and a number, and not the bytes between them, which it
+// would carry through memory round every row loop.
+fn fresh_slot(slot: Slot) -> Slot
+    ensures { λ r. ⌜ r ≡ slot ⌝ }
+{
+    match slot {
+        Slot::NoRow => Slot::NoRow,
+        Slot::Holds(k) => Slot::Holds(k),
+    }
+}
+
+pub fn fresh(act: Active) -> Active
+    ensures { λ a. ⌜ a ≡ act ⌝ }
+{
+    let one = act.first;
+    let other = act.second;
+    let first = fresh_slot(one);
+    let second = fresh_slot(other);
+    Active {
+        first: first,
+        second: second,
+    }
+}
+
 // ---- one dimension
 
 fn void(s: Span) -> Span
@@ -117,44 +148,39 @@ fn coefficient_is_zero(cancel: bool, t: Term) -> bool
     float::abs(t.a) < float::clamp(float::abs(t.b), 1e-3, 1.0) * 1e-9
 }
 
-// The end that a coefficient of this sign bounds.
-fn edge(up: bool, s: Span) -> f64
-    ensures { λ r. ⌜ r ≡ (if up then s .high else s .low) ⌝ }
+// What a term cuts off the numbers from `low` to `high`. The end is selected before the one rare branch.
+fn cut_off(cancel: bool, eps: f64, t: Term, high: f64, low: f64) -> Cut
+    ensures { λ c. ⌜ c ≡ cutOff cancel eps t high low ⌝ }
 {
-    if up { s.high } else { s.low }
-}
-
-// Term k narrows the span. The end is selected before the one rare branch.
-fn narrow(cancel: bool, eps: f64, k: usize, t: Term, s: Span) -> Narrowed
-    ensures { λ n. ⌜ n ≡ narrow cancel eps k t s ⌝ }
-{
-    let act = s.active;
     if coefficient_is_zero(cancel, t) {
         if t.b < -eps {
-            return Narrowed::Empty;
+            return Cut::All;
         }
-        return Narrowed::Kept(s);
+        return Cut::Nothing;
     }
     let up = t.a > 0.0;
-    let e = edge(up, s);
-    if t.b < e * t.a {
+    let edge = if up { high } else { low };
+    if t.b < edge * t.a {
         let v = t.b / t.a;
         if up {
-            let held = set_first(k, act);
-            return Narrowed::Kept(Span {
-                high: v,
-                low: s.low,
-                active: held,
-            });
+            return Cut::Above(v);
         }
-        let held = set_second(k, act);
-        return Narrowed::Kept(Span {
-            high: s.high,
-            low: v,
-            active: held,
-        });
+        return Cut::Below(v);
     }
-    Narrowed::Kept(s)
+    Cut::Nothing
+}
+
+fn between(high: f64, low: f64, first: Slot, second: Slot) -> Span
+    ensures { λ s. ⌜ s ≡ record { high = high; low = low; active = record { first = first; second = second } } ⌝ }
+{
+    Span {
+        high: high,
+        low: low,
+        active: Active {
+            first: first,
+            second: second,
+        },
+    }
 }
 
 // AUTONAN's ending: ends that cross within tolerance meet in the middle, and others leave nothing.
@@ -222,12 +248,11 @@ pub fn lp_1d_core(
     requires { ⌜ 3 * upto ≤ length (now rows) ⌝ }
     ensures { λ r. ⌜ r ≡ reduced (within left (lp1dCore steep true eps (map (onLine steep p q) (take upto (rowsOf (now (rows .entry))))) 0 (wholeLine act))) ⌝ }
 {
-    let top = float::infinity();
-    let mut s = Span {
-        high: top,
-        low: -top,
-        active: act,
-    };
+    let start = fresh(act);
+    let mut high = float::infinity();
+    let mut low = -high;
+    let mut first = start.first;
+    let mut second = start.second;
     let mut rest = left;
     let mut k = 0usize;
     while k < upto {
@@ -236,18 +261,23 @@ pub fn lp_1d_core(
         }
         rest -= 1;
         let t = on_line(steep, p, q, rows::row_at(rows, k));
-        let n = narrow(true, eps, k, t, s);
-        match n {
-            Narrowed::Kept(w) => {
-                s = w;
+        match cut_off(true, eps, t, high, low) {
+            Cut::Nothing => {}
+            Cut::Above(v) => {
+                high = v;
+                first = Slot::Holds(k);
             }
-            Narrowed::Empty => {
-                return Reduced::Done(void(s), rest);
+            Cut::Below(v) => {
+                low = v;
+                second = Slot::Holds(k);
+            }
+            Cut::All => {
+                return Reduced::Done(void(between(high, low, first, second)), rest);
             }
         }
         k += 1;
     }
-    Reduced::Done(meeting(steep, eps, s), rest)
+    Reduced::Done(meeting(steep, eps, between(high, low, first, second)), rest)
 }
 
 // ---- pairs
@@ -272,26 +302,29 @@ fn span_of(pairs: &[f64], n: usize, autonan: bool, eps: f64) -> Span
     requires { ⌜ 2 * n ≡ length (now pairs) ⌝ }
     ensures { λ s. ⌜ s ≡ lp1dCore autonan false eps (pairsOf (now (pairs .entry))) 0 (wholeLine noRows) .value ⌝ }
 {
-    let top = float::infinity();
-    let mut s = Span {
-        high: top,
-        low: -top,
-        active: no_rows(),
-    };
+    let mut high = float::infinity();
+    let mut low = -high;
+    let mut first = Slot::NoRow;
+    let mut second = Slot::NoRow;
     let mut k = 0usize;
     while k < n {
-        let narrowed = narrow(false, eps, k, pair_at(pairs, k), s);
-        match narrowed {
-            Narrowed::Kept(w) => {
-                s = w;
+        match cut_off(false, eps, pair_at(pairs, k), high, low) {
+            Cut::Nothing => {}
+            Cut::Above(v) => {
+                high = v;
+                first = Slot::Holds(k);
             }
-            Narrowed::Empty => {
-                return void(s);
+            Cut::Below(v) => {
+                low = v;
+                second = Slot::Holds(k);
+            }
+            Cut::All => {
+                return void(between(high, low, first, second));
             }
         }
         k += 1;
     }
-    meeting(autonan, eps, s)
+    meeting(autonan, eps, between(high, low, first, second))
 }
 
 // Public: the highest and the lowest t with a*t <= b for every pair a, b; refusals 1 and 2.

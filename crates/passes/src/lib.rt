@@ -49,6 +49,22 @@ fn beyond_rounding(residual: f64, r: Row, p: Point) -> bool
     false
 }
 
+// The same state, written anew as `line::fresh` does. y is read by itself: read in one with x, which the step wrote apart from
+// it, it would wait for both to reach memory.
+fn fresh(s: State) -> State
+    ensures { λ t. ⌜ t ≡ s ⌝ }
+{
+    let at = s.at;
+    let act = s.active;
+    let x = at.x;
+    let y = float::settled(at.y);
+    let active = line::fresh(act);
+    State {
+        at: Point { x: x, y: y },
+        active: active,
+    }
+}
+
 pub fn frame(bound: f64, eps: f64, scale: f64) -> Frame
     ensures { λ f. ⌜ f ≡ frame bound eps scale ⌝ }
 {
@@ -118,7 +134,7 @@ pub fn forward(
                                 last = true;
                             }
                             Stepped::Done(t, over) => {
-                                s = t;
+                                s = fresh(t);
                                 rest = over;
                                 break 'attempts;
                             }
@@ -135,7 +151,7 @@ pub fn forward(
                             break 'rows;
                         }
                         Stepped::Done(t, over) => {
-                            s = t;
+                            s = fresh(t);
                             rest = over;
                         }
                     }
@@ -228,7 +244,7 @@ pub fn deferred(rows: &[f64], n: usize, f: Frame, start: State, left: u64) -> St
                                 return Stepped::Failed(last);
                             }
                             Stepped::Done(t, last) => {
-                                s = t;
+                                s = fresh(t);
                                 rest = last;
                             }
                         }

@@ -9,31 +9,34 @@ use denote.Ref.{now}
 use Rattle.readings.specs.Readings.{within}
 use Rattle.rows.specs.Rows.{rowsOf}
 use Rattle.line.specs.Line.{lp1dCore, onLine, reduced}
+use Rattle.line.proofs.Select.{span, cuts-all, goes-on}
 use Rattle.line.proofs.Reduction.{whole-line, rows-end, row-stops, row-keeps, row-empties}
 use borrow.Author.Needs.{needs}
 use Rattle.line.proofs.lp_1d_core.Statement.{statement}
 use Rattle.line.proofs.lp_1d_core.Tie as tie
 
 abbrev Inv-loop : tie.InvT-loop
-Inv-loop rows upto steep p q eps left top s₀ rest₀ k₀ s rest k =
-    (k ≤ upto) × (within rest (lp1dCore steep true eps (map (onLine steep p q) (drop k (take upto (rowsOf rows)))) k s) ≡ within rest₀ (lp1dCore steep true eps (map (onLine steep p q) (take upto (rowsOf rows))) 0 s₀))
+Inv-loop rows upto steep p q eps left high₀ low₀ first₀ second₀ rest₀ k₀ high low first second rest k =
+    (k ≤ upto) × (within rest (lp1dCore steep true eps (map (onLine steep p q) (drop k (take upto (rowsOf rows)))) k (span high low first second)) ≡ within rest₀ (lp1dCore steep true eps (map (onLine steep p q) (take upto (rowsOf rows))) 0 (span high₀ low₀ first₀ second₀)))
 
 abbrev μ-loop : tie.MeasureT-loop
-μ-loop rows upto steep p q eps left top s₀ rest₀ k₀ s rest k = upto - k
+μ-loop rows upto steep p q eps left high₀ low₀ first₀ second₀ rest₀ k₀ high low first second rest k = upto - k
+
+fresh-requires : tie.Need-fresh-requires Inv-loop μ-loop
+fresh-requires c κs = search needs
 
 infinity-requires : tie.Need-infinity-requires Inv-loop μ-loop
 infinity-requires c κs = search needs
 
 loop-holds : tie.Need-loop-holds Inv-loop μ-loop
-loop-holds c =
-    (omega arith, refl)
+loop-holds c = (omega arith, refl)
 
 returns : tie.Need-returns Inv-loop μ-loop
 unfolding reduced
 returns c =
-    let a = c .before .before .before .before .before .args in
+    let a = c .before .before .before .before .before .before .args in
     let l = c .before .before .loop in
-    ap reduced (sym (row-stops (a .steep) (a .eps) (onLine (a .steep) (a .p) (a .q)) (now (a .rows)) (a .upto) (l .k) (l .rest) (l .s) (c .before .loop-test .taken) (search needs) (c .if1 .taken)) ∙ l .inv .1 ∙ ap (λ s. within (a .left) (lp1dCore (a .steep) true (a .eps) (map (onLine (a .steep) (a .p) (a .q)) (take (a .upto) (rowsOf (now (a .rows))))) 0 s)) (whole-line (c .before .before .before .infinity .result) (a .act) (c .before .before .before .infinity .ensures)))
+    rw (← whole-line (c .before .before .before .infinity .ensures) (c .before .before .before .before .fresh .ensures)) (ap reduced (sym (row-stops (a .steep) (a .eps) (onLine (a .steep) (a .p) (a .q)) (now (a .rows)) (a .upto) (l .k) (l .rest) (span (l .high) (l .low) (l .first) (l .second)) (c .before .loop-test .taken) (c .before .before .before .before .before .before .pre) (c .if1 .taken)) ∙ l .inv .1))
 
 sub-rest : tie.Need-sub-rest Inv-loop μ-loop
 sub-rest c = search needs
@@ -44,14 +47,23 @@ row-at-requires c κs = search needs
 on-line-requires : tie.Need-on-line-requires Inv-loop μ-loop
 on-line-requires c κs = search needs
 
-narrow-requires : tie.Need-narrow-requires Inv-loop μ-loop
-narrow-requires c κs = search needs
-
-enum-known-n : tie.Need-enum-known-n Inv-loop μ-loop
-enum-known-n c = search needs
+cut-off-requires : tie.Need-cut-off-requires Inv-loop μ-loop
+cut-off-requires c κs = search needs
 
 enum-told : tie.Need-enum-told Inv-loop μ-loop
 enum-told c = search needs
+
+enum-known-v : tie.Need-enum-known-v Inv-loop μ-loop
+enum-known-v c = search needs
+
+enum-known-v-2 : tie.Need-enum-known-v-2 Inv-loop μ-loop
+enum-known-v-2 c = search needs
+
+enum-told-2 : tie.Need-enum-told-2 Inv-loop μ-loop
+enum-told-2 c = search needs
+
+between-requires : tie.Need-between-requires Inv-loop μ-loop
+between-requires c κs = search needs
 
 void-requires : tie.Need-void-requires Inv-loop μ-loop
 void-requires c κs = search needs
@@ -59,9 +71,10 @@ void-requires c κs = search needs
 returns-2 : tie.Need-returns-2 Inv-loop μ-loop
 unfolding reduced
 returns-2 c =
-    let a = c .before .before .before .before .before .before .before .before .before .before .before .args in
-    let l = c .before .before .before .before .before .before .before .before .loop in
-    rw (c .void .ensures) (ap reduced (sym (row-empties (a .steep) (a .eps) (onLine (a .steep) (a .p) (a .q)) (now (a .rows)) (a .upto) (l .k) (l .rest) (l .s) (c .before .before .before .before .before .before .before .loop-test .taken) (search needs) (omega arith) (rw (← c .before .before .before .before .before .row-at .ensures, ← c .before .before .before .before .on-line .ensures, ← c .before .before .before .narrow .ensures) (c .before .enum-told .given .1))) ∙ l .inv .1 ∙ ap (λ s. within (a .left) (lp1dCore (a .steep) true (a .eps) (map (onLine (a .steep) (a .p) (a .q)) (take (a .upto) (rowsOf (now (a .rows))))) 0 s)) (whole-line (c .before .before .before .before .before .before .before .before .before .infinity .result) (a .act) (c .before .before .before .before .before .before .before .before .before .infinity .ensures))))
+    let a = c .before .before .before .before .before .before .before .before .before .before .before .before .before .args in
+    let l = c .before .before .before .before .before .before .before .before .before .loop in
+    let v = span (l .high) (l .low) (l .first) (l .second) in
+    rw (c .void .ensures, c .before .between .ensures, ← whole-line (c .before .before .before .before .before .before .before .before .before .before .infinity .ensures) (c .before .before .before .before .before .before .before .before .before .before .before .fresh .ensures)) (ap reduced (sym (row-empties (a .steep) (a .eps) (onLine (a .steep) (a .p) (a .q)) (now (a .rows)) (a .upto) (l .k) (l .rest) v (c .before .before .before .before .before .before .before .before .loop-test .taken) (c .before .before .before .before .before .before .before .before .before .before .before .before .before .pre) (omega (arith, c .before .before .before .before .before .before .before .if1 .left)) (rw (← c .before .before .before .before .before .before .row-at .ensures, ← c .before .before .before .before .before .on-line .ensures) (cuts-all true (a .eps) (l .k) (c .before .before .before .before .before .on-line .result) v (c .before .before .before .before .cut-off .ensures) (c .before .before .enum-told2 .given .1)))) ∙ l .inv .1))
 
 add-k : tie.Need-add-k Inv-loop μ-loop
 add-k c = search needs
@@ -71,9 +84,15 @@ loop-less c = search needs
 
 loop-again : tie.Need-loop-again Inv-loop μ-loop
 loop-again c =
-    let a = c .before .before .before .before .before .before .before .before .before .before .before .args in
-    let l = c .before .before .before .before .before .before .before .before .loop in
-    (omega arith, sym (row-keeps (a .steep) (a .eps) (onLine (a .steep) (a .p) (a .q)) (now (a .rows)) (a .upto) (l .k) (l .rest) (l .s) (c .before .before .before .before .before .before .before .loop-test .taken) (search needs) (c .before .n .given .0 .0) (omega arith) (rw (← c .before .before .before .before .before .row-at .ensures, ← c .before .before .before .before .on-line .ensures, ← c .before .before .before .narrow .ensures) (c .before .n .given .1))) ∙ l .inv .1)
+    let a = c .before .before .before .before .before .before .before .before .before .before .args in
+    let l = c .before .before .before .before .before .before .loop in
+    let v = span (l .high) (l .low) (l .first) (l .second) in
+    let m = c .match in
+    let w = span (m .high) (m .low) (m .first) (m .second) in
+    (omega arith, sym (row-keeps (a .steep) (a .eps) (onLine (a .steep) (a .p) (a .q)) (now (a .rows)) (a .upto) (l .k) (l .rest) v (c .before .before .before .before .before .loop-test .taken) (c .before .before .before .before .before .before .before .before .before .before .pre) w (omega (arith, c .before .before .before .before .if1 .left)) (rw (← c .before .before .before .row-at .ensures, ← c .before .before .on-line .ensures) (goes-on true (a .eps) (l .k) (c .before .before .on-line .result) v (c .before .cut-off .ensures) w (m .came) (λ x. (x .1 .given .1, x .2, x .3, x .4, x .5)) (λ x. (x .1 .given .0 .0, x .1 .given .1, x .3, x .4, x .5, x .6)) (λ x. (x .1 .given .0 .0, x .1 .given .1, x .3, x .4, x .5, x .6))))) ∙ l .inv .1)
+
+between-requires-2 : tie.Need-between-requires-2 Inv-loop μ-loop
+between-requires-2 c κs = search needs
 
 meeting-requires : tie.Need-meeting-requires Inv-loop μ-loop
 meeting-requires c κs = search needs
@@ -81,9 +100,9 @@ meeting-requires c κs = search needs
 returns-3 : tie.Need-returns-3 Inv-loop μ-loop
 unfolding reduced
 returns-3 c =
-    let a = c .before .before .before .before .before .args in
-    let l = c .before .before .loop in
-    rw (c .meeting .ensures) (ap reduced (sym (rows-end (a .steep) (a .eps) (onLine (a .steep) (a .p) (a .q)) (now (a .rows)) (a .upto) (l .k) (l .rest) (l .s) (c .before .loop-test .left)) ∙ l .inv .1 ∙ ap (λ s. within (a .left) (lp1dCore (a .steep) true (a .eps) (map (onLine (a .steep) (a .p) (a .q)) (take (a .upto) (rowsOf (now (a .rows))))) 0 s)) (whole-line (c .before .before .before .infinity .result) (a .act) (c .before .before .before .infinity .ensures))))
+    let a = c .before .before .before .before .before .before .before .args in
+    let l = c .before .before .before .loop in
+    rw (c .meeting .ensures, c .before .between2 .ensures, ← whole-line (c .before .before .before .before .infinity .ensures) (c .before .before .before .before .before .fresh .ensures)) (ap reduced (sym (rows-end (a .steep) (a .eps) (onLine (a .steep) (a .p) (a .q)) (now (a .rows)) (a .upto) (l .k) (l .rest) (span (l .high) (l .low) (l .first) (l .second)) (c .before .before .loop-test .left)) ∙ l .inv .1))
 
 pub lp-1d-core-spec : {M : Type 1} → statement M
 lp-1d-core-spec =
@@ -91,19 +110,24 @@ lp-1d-core-spec =
     (tie.spec
     Inv-loop
     μ-loop
+    fresh-requires
     infinity-requires
     loop-holds
     returns
     sub-rest
     row-at-requires
     on-line-requires
-    narrow-requires
-    enum-known-n
+    cut-off-requires
     enum-told
+    enum-known-v
+    enum-known-v-2
+    enum-told-2
+    between-requires
     void-requires
     returns-2
     add-k
     loop-less
     loop-again
+    between-requires-2
     meeting-requires
     returns-3)

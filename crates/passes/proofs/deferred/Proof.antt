@@ -75,6 +75,9 @@ returns-4 c =
 enum-known-next-2 : tie.Need-enum-known-next-2 Inv-loop μ-loop
 enum-known-next-2 c = search needs
 
+fresh-requires : tie.Need-fresh-requires Inv-loop μ-loop
+fresh-requires c κs = search needs
+
 sub-rounds : tie.Need-sub-rounds Inv-loop μ-loop
 sub-rounds c = search needs
 
@@ -83,11 +86,11 @@ loop-less c = search needs
 
 loop-again : tie.Need-loop-again Inv-loop μ-loop
 loop-again c =
-    let pin = c .before .before .before in
+    let pin = c .before .before .before .before in
     let held = pin .before .before in
     let found = held .before .before .before in
     let scan = found .before .before in
-    step-finds (scan .before .before .loop .inv) (scan .before .loop-test .taken) (scan .worst-row .ensures) (found .got .given .1) (held .row .given .1) (pin .incre-step-2d .ensures) (c .before .next2 .given .1)
+    rw (c .fresh .ensures) (step-finds (scan .before .before .loop .inv) (scan .before .loop-test .taken) (scan .worst-row .ensures) (found .got .given .1) (held .row .given .1) (pin .incre-step-2d .ensures) (c .before .before .next2 .given .1))
 
 returns-5 : tie.Need-returns-5 Inv-loop μ-loop
 returns-5 c = rounds-end (c .before .loop .inv) (search needs)
@@ -112,6 +115,7 @@ deferred-spec =
     enum-known-next
     returns-4
     enum-known-next-2
+    fresh-requires
     sub-rounds
     loop-less
     loop-again

@@ -107,6 +107,9 @@ attempts-again c =
 enum-known-t : tie.Need-enum-known-t Inv-attempts μ-attempts Inv-rows μ-rows
 enum-known-t c = search needs
 
+fresh-requires : tie.Need-fresh-requires Inv-attempts μ-attempts Inv-rows μ-rows
+fresh-requires c κs = search needs
+
 enum-known-t-2 : tie.Need-enum-known-t-2 Inv-attempts μ-attempts Inv-rows μ-rows
 enum-known-t-2 c = search needs
 
@@ -133,6 +136,9 @@ enum-known-over-3 c = search needs
 enum-known-t-3 : tie.Need-enum-known-t-3 Inv-attempts μ-attempts Inv-rows μ-rows
 enum-known-t-3 c = search needs
 
+fresh-requires-2 : tie.Need-fresh-requires-2 Inv-attempts μ-attempts Inv-rows μ-rows
+fresh-requires-2 c κs = search needs
+
 add-i : tie.Need-add-i Inv-attempts μ-attempts Inv-rows μ-rows
 add-i c = search needs
 
@@ -146,9 +152,9 @@ rows-again c =
     let turn = test .before .before .before .before .rows .inv in
     let row = test .before .row-at .ensures in
     ⊎-elim
-    (λ way. rw (way .14, way .15) (record { all = search needs; gives = attempt-finds (way .9 .inv _ (trial-fails turn (search needs) (search needs) (cc) (rw (test .residual .ensures, row) at (way .1 .ensures)) (way .3 .given .1) (way .6 .ensures))) (way .10 .ensures) (way .12 .given .1) }))
+    (λ way. rw (way .15, way .16, way .14 .ensures) (record { all = search needs; gives = attempt-finds (way .9 .inv _ (trial-fails turn (search needs) (search needs) (cc) (rw (test .residual .ensures, row) at (way .1 .ensures)) (way .3 .given .1) (way .6 .ensures))) (way .10 .ensures) (way .12 .given .1) }))
     (⊎-elim
-    (λ way. rw (way .9, way .10) (step-finds turn (search needs) (search needs) (cc) (rw (test .residual .ensures, row) at (way .1 .ensures)) (way .3 .given .1) (way .5 .ensures) (way .7 .given .1)))
+    (λ way. rw (way .10, way .11, way .9 .ensures) (step-finds turn (search needs) (search needs) (cc) (rw (test .residual .ensures, row) at (way .1 .ensures)) (way .3 .given .1) (way .5 .ensures) (way .7 .given .1)))
     (λ way. rw (way .1, way .2) (keeps turn (search needs) (search needs) (cc))))
     (c .if2 .came)
 
@@ -198,12 +204,14 @@ forward-spec =
     attempts-less
     attempts-again
     enum-known-t
+    fresh-requires
     enum-known-t-2
     incre-step-2d-requires
     enum-told-3
     returns-4
     enum-known-over-3
     enum-known-t-3
+    fresh-requires-2
     add-i
     rows-less
     rows-again
