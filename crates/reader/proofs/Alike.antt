@@ -14,7 +14,7 @@ use Rattle.record.specs.Bytes.{little, field, float, floats}
 use Rattle.record.specs.Record.{bodyLength, kind, size, normalizeByte, task, allowance, rowFloats, refusal, outcome}
 use Rattle.record.proofs.Refusals.{solved-length, solved-without, refused-alike}
 use Rattle.reader.specs.Reader.{kept}
-use Rattle.reader.proofs.Kept.{number, kept-as}
+use Rattle.reader.proofs.Kept.{by-number, number}
 
 -- some bytes from `at` on are the end of the first ones
 pub part : (k at : ℕ) (bytes : List ℕ) → take k (drop at bytes) ≡ drop at (take (at + k) bytes)
@@ -95,10 +95,9 @@ module _ (a b : List ℕ) where
 
     other-alike : (number a ≡ 0 → ⊥) → (number a ≡ 2 → ⊥) → outcome a ≡ outcome b
     other-alike not0 not2 =
-        both-refused not0
-        (refused-alike (kind a) (bodyLength a) (normalizeByte a) not0 not2
-        ∙ same-number
-        ∙ sym (refused-alike (kind b) (bodyLength b) (normalizeByte b) (λ e. not0 (same-number ∙ e)) (λ e. not2 (same-number ∙ e))))
+        let of-a = refused-alike (kind a) (bodyLength a) (normalizeByte a) not0 not2 in
+        let of-b = refused-alike (kind b) (bodyLength b) (normalizeByte b) (λ e. not0 (same-number ∙ e)) (λ e. not2 (same-number ∙ e)) in
+        both-refused not0 (of-a ∙ same-number ∙ sym of-b)
 
   many-alike : number a ≡ 2 → take 55 a ≡ take 55 b → outcome a ≡ outcome b
   many-alike e alike =
@@ -106,4 +105,5 @@ module _ (a b : List ℕ) where
       both-refused six (λ z. let no : ⊥ = omega arith in no) (rw (header six .0, header six .1, same-fields 55 a b alike (omega arith) .2))
 
   pub same-outcome : take (kept a) a ≡ take (kept a) b → outcome a ≡ outcome b
-  same-outcome = kept-as a (λ k. take k a ≡ take k b → outcome a ≡ outcome b) solved-alike many-alike (λ not0 not2 alike. other-alike alike not0 not2)
+  unfolding kept
+  same-outcome = by-number (λ k. take k a ≡ take k b → outcome a ≡ outcome b) (number a) _ _ _ solved-alike many-alike (λ not0 not2 alike. other-alike alike not0 not2)

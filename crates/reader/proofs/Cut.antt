@@ -51,10 +51,11 @@ module _ (input rest : List ℕ) where
       let portion = b ∷ bytes in
       let some = takes-some reader held portion (underway-unfinished input reader held out (portion ++ rest) way) (omega arith) in
       let left = length-drop (taken reader held portion) portion in
-      let later = fed turns (readerAfter reader held portion) (heldAfter reader held portion) (drop (taken reader held portion) portion) in
-      rw (← append-assoc out (text reader held portion) (later .out))
-      (feeding turns (readerAfter reader held portion) (heldAfter reader held portion) (out ++ text reader held portion) (drop (taken reader held portion) portion) (omega arith)
-      (underway-turn input reader held out portion rest way))
+      let next = readerAfter reader held portion in
+      let held′ = heldAfter reader held portion in
+      let behind = drop (taken reader held portion) portion in
+      let later = feeding turns next held′ (out ++ text reader held portion) behind (omega arith) (underway-turn input held out portion rest reader way) in
+      rw (← append-assoc out (text reader held portion) (fed turns next held′ behind .out)) later
 
 -- and all those that are still to come
 pub running : (input : List ℕ) (portions : List (List ℕ)) (reader : Reader) (held out : List ℕ) → Underway input reader held out (flatten portions)

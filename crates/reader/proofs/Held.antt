@@ -74,17 +74,17 @@ module _ (k : ℕ) (seen held portion : List ℕ) (n : ℕ) (fits : k ≤ length
       let none : m ≡ 0 = omega arith in
       let all : min (length more) k ≡ k = omega (arith, long) in
       let before : min (length seen) k ≡ k = omega arith in
-      rw (all, none, ← paste-zero held (length seen) portion) (subst (λ j. take j held ≡ take j seen) before first ∙ sym (take-append-le k seen (take n portion) h))
+      let same : take k held ≡ take k seen = subst (λ j. take j held ≡ take j seen) before first in
+      rw (all, none, ← paste-zero held (length seen) portion) (same ∙ sym (take-append-le k seen (take n portion) h))
 
   some-lacks : length seen ≤ k → First k more (paste held (length seen) portion m)
   some-lacks h =
       let upto : min (length more) k ≡ length seen + m = omega (arith, long) in
       let before : min (length seen) k ≡ length seen = omega arith in
       let seen-first : take (length seen) held ≡ seen = subst (λ j. take j held ≡ take j seen) before first ∙ take-length seen in
-      rw upto
-      (take-paste held (length seen) portion m (omega arith) (omega arith)
-      ∙ ap₂ (λ (x y : List ℕ). x ++ y) seen-first (sym (take-take m n portion (omega arith)))
-      ∙ sym (take-append-add seen (take n portion) m))
+      let put = take-paste held (length seen) portion m (omega arith) (omega arith) in
+      let same = ap₂ (λ (x y : List ℕ). x ++ y) seen-first (sym (take-take m n portion (omega arith))) in
+      rw upto (put ∙ same ∙ sym (take-append-add seen (take n portion) m))
 
   pub put-in : First k more (paste held (length seen) portion m)
   put-in = elim (decLe k (length seen)) [ yes h ↦ nothing-lacks h | no h ↦ some-lacks (omega arith) ]
@@ -104,10 +104,11 @@ module _ (seen held portion : List ℕ) (holds : Holds seen held) where
       let within = header-within (length seen) held portion in
       let lacking = header-lacking (length seen) held portion in
       let none-past : min (6 - length seen) toFirst ≡ toFirst = omega arith in
-      let upto : min (length withHeader) 6 ≡ min (length withHeader) (kept withHeader) = omega (arith, keeps-header withHeader, length-more seen portion toFirst within) in
+      let long = length-more seen portion toFirst within in
+      let upto : min (length withHeader) 6 ≡ min (length withHeader) (kept withHeader) = omega (arith, keeps-header withHeader) in
       let before : First 6 seen held = begins seen held holds (min (length seen) 6) (omega arith) (omega (arith, keeps-header seen)) in
-      let put = put-in 6 seen held portion toFirst (omega (arith, holds .room)) within before in
-      subst (λ j. take j (paste held (length seen) portion toFirst) ≡ take j withHeader) upto (subst (λ m. First 6 withHeader (paste held (length seen) portion m)) none-past put)
+      let put = subst (λ m. First 6 withHeader (paste held (length seen) portion m)) none-past (put-in 6 seen held portion toFirst (omega (arith, holds .room)) within before) in
+      subst (λ j. take j (paste held (length seen) portion toFirst) ≡ take j withHeader) upto put
 
   pub holds-header : Holds withHeader (heldHeader (length seen) held portion)
   holds-header =
@@ -143,16 +144,20 @@ module _ (n : ℕ) (seen held portion : List ℕ) (holds : Holds seen held) wher
   abbrev goes : ℕ
   goes = toHeader (length seen) portion
 
+  abbrev rest : List ℕ
+  rest = drop goes portion
+
+  abbrev begun : List ℕ
+  begun = heldHeader (length seen) held portion
+
+  abbrev Both : ℕ → Type 0
+  Both passed = Holds (seen ++ take goes portion ++ take (toBody passed begun rest) rest) (heldBody passed begun rest)
+
   pub holds-after : Holds (seen ++ take (taken (reading n seen) held portion) portion) (heldAfter (reading n seen) held portion)
   unfolding taken heldAfter
   holds-after =
       let header = holds-header seen held portion holds in
       let long = length-more seen portion goes (header-within (length seen) held portion) in
-      let held′ = heldHeader (length seen) held portion in
-      let rest = drop goes portion in
-      let body =
-      subst (λ k. Holds (seen ++ take goes portion ++ take (toBody k held′ rest) rest) (heldBody k held′ rest)) long
-      (holds-body (seen ++ take goes portion) held′ rest header) in
-      subst (λ s. Holds s (heldAfter (reading n seen) held portion))
-      (append-assoc seen _ _ ∙ ap (λ (l : List ℕ). seen ++ l) (sym (take-add goes (toBody (length seen + goes) held′ rest) portion)))
-      body
+      let both = subst Both long (holds-body (seen ++ take goes portion) begun rest header) in
+      let together = ap (λ (l : List ℕ). seen ++ l) (sym (take-add goes (toBody (length seen + goes) begun rest) portion)) in
+      subst (λ s. Holds s (heldAfter (reading n seen) held portion)) (append-assoc seen _ _ ∙ together) both

@@ -11,29 +11,30 @@ use Rattle.record.specs.Record.{bodyLength, kind, size, refusal}
 use Rattle.record.proofs.Refusals.{solved-length, many-length}
 use Rattle.reader.specs.Reader.{kept}
 
+-- a number of bytes that goes by whether a refusal is 0, 2 or another
+pub by-number : (P : ℕ → Type 0) (number s m o : ℕ) → (number ≡ 0 → P s) → (number ≡ 2 → P m) → ((number ≡ 0 → ⊥) → (number ≡ 2 → ⊥) → P o)
+    → P (if eqb number 0 then s else if eqb number 2 then m else o)
+unfolding if_then_else_
+by-number P number s m o solved many other = go (eqb number 0) refl (eqb number 2) refl
+  where
+    go : (a : Bool) → eqb number 0 ≡ a → (b : Bool) → eqb number 2 ≡ b → P (if a then s else if b then m else o)
+    go true d b e = solved (eqb-true _ _ d)
+    go false d true e = many (eqb-true _ _ e)
+    go false d false e = other (eqb-false _ _ d) (eqb-false _ _ e)
+
 module _ (held : List ℕ) where
   abbrev pub number : ℕ
   number = refusal (kind held) (bodyLength held) 0
 
-  -- one of three numbers of bytes
-  pub kept-as : (P : ℕ → Type 0) → (number ≡ 0 → P (size held)) → (number ≡ 2 → P 55) → ((number ≡ 0 → ⊥) → (number ≡ 2 → ⊥) → P 6) → P (kept held)
-  unfolding kept if_then_else_
-  kept-as P solved many other = go (eqb number 0) refl (eqb number 2) refl
-    where
-      go : (a : Bool) → eqb number 0 ≡ a → (b : Bool) → eqb number 2 ≡ b → P (if a then size held else if b then 55 else 6)
-      go true d b e = solved (eqb-true _ _ d)
-      go false d true e = many (eqb-true _ _ e)
-      go false d false e = other (eqb-false _ _ d) (eqb-false _ _ e)
-
   pub keeps-header : 6 ≤ kept held
-  unfolding size
-  keeps-header = kept-as (λ k. 6 ≤ k) (λ _. omega arith) (λ _. omega arith) (λ _ _. omega arith)
+  unfolding kept size
+  keeps-header = by-number (λ k. 6 ≤ k) number _ _ _ (λ _. omega arith) (λ _. omega arith) (λ _ _. omega arith)
 
   pub keeps-record : kept held ≤ size held
-  unfolding size
+  unfolding kept size
   keeps-record =
-      kept-as (λ k. k ≤ size held) (λ _. omega arith) (λ e. let many = many-length _ _ _ e in omega arith) (λ _ _. omega arith)
+      by-number (λ k. k ≤ size held) number _ _ _ (λ _. omega arith) (λ e. let many = many-length _ _ _ e in omega arith) (λ _ _. omega arith)
 
   pub keeps-room : kept held ≤ 49207
-  unfolding size
-  keeps-room = kept-as (λ k. k ≤ 49207) (λ e. let solved = solved-length _ _ _ e in omega arith) (λ _. omega arith) (λ _ _. omega arith)
+  unfolding kept size
+  keeps-room = by-number (λ k. k ≤ 49207) number _ _ _ (λ e. let solved = solved-length _ _ _ e in omega arith) (λ _. omega arith) (λ _ _. omega arith)

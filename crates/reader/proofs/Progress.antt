@@ -111,8 +111,10 @@ module _ (reader : Reader) (held portion : List ℕ) where
   taken-body : 6 ≤ reader .passed → taken reader held portion ≡ min (size held - reader .passed) (length portion)
   unfolding taken
   taken-body there =
-      rw (header-left (reader .passed) held portion there, header-there (reader .passed) held portion there, add-zero (reader .passed), zero-add (toBody (reader .passed) held portion))
-      (body-now (reader .passed) held portion there)
+      let header = header-there (reader .passed) held portion there in
+      let left = header-left (reader .passed) held portion there in
+      let body = body-now (reader .passed) held portion there in
+      rw (left, header, add-zero (reader .passed), zero-add (toBody (reader .passed) held portion)) body
 
   pub takes-some : unfinished reader held ≡ true → 0 < length portion → 0 < taken reader held portion
   unfolding taken toHeader

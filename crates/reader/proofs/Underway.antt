@@ -8,6 +8,7 @@ use native.Mathlib.Decide.{decLe}
 use native.Mathlib.Omega.{arith}
 use lib.ListN.{length, drop, length-append}
 use lib.Seq.{take-append-le, drop-append-le, drop-append-add, drop-length}
+use Rattle.solve.specs.declared.Outcome.{Outcome}
 use Rattle.lines.specs.Lines.{outcomeLine}
 use Rattle.record.specs.Record.{size, outcome}
 use Rattle.reader.specs.Stream.{whole}
@@ -53,10 +54,9 @@ module _ (n : ℕ) (bytes rest : List ℕ) (all : size bytes ≤ length bytes) w
       let longer = length-append bytes rest in
       let same = more-size bytes rest (omega (arith, has-header bytes)) in
       let kept-alike = sym (take-append-le (kept bytes) bytes rest (omega (arith, keeps-record bytes))) in
+      let behind = ap (λ k. drop k (bytes ++ rest)) same ∙ drop-append-le (size bytes) bytes rest all in
       prints-whole n (bytes ++ rest) (omega arith)
-      ∙ ap₂ (λ (o : _) (l : List ℕ). outcomeLine (n + 1) o ++ prints (n + 1) l)
-      (sym (same-outcome bytes (bytes ++ rest) kept-alike))
-      (ap (λ k. drop k (bytes ++ rest)) same ∙ drop-append-le (size bytes) bytes rest all)
+      ∙ ap₂ (λ (o : Outcome) (l : List ℕ). outcomeLine (n + 1) o ++ prints (n + 1) l) (sym (same-outcome bytes (bytes ++ rest) kept-alike)) behind
 
 -- ---- a turn
 
@@ -79,48 +79,47 @@ module _ (n : ℕ) (seen held portion rest : List ℕ) (holds : Holds seen held)
       → prints 0 input ≡ out ++ text reader held portion ++ prints n′ (seen′ ++ (drop took portion ++ rest))
   said n′ seen′ e = left ∙ ap (λ (l : List ℕ). out ++ l) (ap (prints n) together ∙ e) ∙ sym (append-assoc out (text reader held portion) _)
 
-  whole-turn : whole (seen ++ portion) ≡ true → Then (readerAfter reader held portion)
+  whole-turn : whole (seen ++ portion) ≡ true → Then (reading (n + 1) [])
   whole-turn all =
       let end : size (seen ++ portion) ≡ length seen + took = omega (arith, took-record n seen held portion holds cut all, before-end n seen held portion holds cut) in
-      let behind : drop (size (seen ++ portion)) (seen ++ portion) ≡ drop took portion = ap (λ k. drop k (seen ++ portion)) end ∙ drop-append-add seen portion took in
-      subst Then (sym (next n seen held portion holds cut all))
-      (record {
+      let behind = ap (λ k. drop k (seen ++ portion)) end ∙ drop-append-add seen portion took in
+      let first = prints-first n (seen ++ portion) rest (was-whole (seen ++ portion) all) in
+      let text-first = ap₂ (λ (x y : List ℕ). x ++ prints (n + 1) (y ++ rest)) (sym (line n seen held portion holds cut all)) behind in
+      record {
         seen = [];
         passed = refl;
         cut = none-cut;
         holds = holds-next n seen held portion holds cut all;
-        left =
-            said (n + 1) []
-            (prints-first n (seen ++ portion) rest (was-whole (seen ++ portion) all)
-            ∙ ap₂ (λ (x y : List ℕ). x ++ prints (n + 1) (y ++ rest)) (sym (line n seen held portion holds cut all)) behind);
-      })
+        left = said (n + 1) [] (first ∙ text-first);
+      }
 
-  part-turn : whole (seen ++ portion) ≡ false → Then (readerAfter reader held portion)
+  part-turn : whole (seen ++ portion) ≡ false → Then (reading n (seen ++ portion))
   part-turn part =
-      let behind : drop took portion ≡ [] = ap (λ k. drop k portion) (took-all n seen held portion holds cut part) ∙ drop-length portion in
-      subst Then (sym (goes-on n seen held portion holds cut part))
-      (record {
+      let none-behind : drop took portion ≡ [] = ap (λ k. drop k portion) (took-all n seen held portion holds cut part) ∙ drop-length portion in
+      record {
         seen = seen ++ portion;
         passed = refl;
         cut = part;
         holds = holds-more n seen held portion holds cut part;
-        left = said n (seen ++ portion) (rw (silent n seen held portion holds cut part, behind));
-      })
+        left = said n (seen ++ portion) (rw (silent n seen held portion holds cut part, none-behind));
+      }
 
   a-turn : Then (readerAfter reader held portion)
   a-turn = go (whole (seen ++ portion)) refl
     where
       go : (b : Bool) → whole (seen ++ portion) ≡ b → Then (readerAfter reader held portion)
-      go true e = whole-turn e
-      go false e = part-turn e
+      go true e = subst Then (sym (next n seen held portion holds cut e)) (whole-turn e)
+      go false e = subst Then (sym (goes-on n seen held portion holds cut e)) (part-turn e)
 
-pub underway-turn : (input : List ℕ) (reader : Reader) (held out portion rest : List ℕ) → Underway input reader held out (portion ++ rest)
-    → Underway input (readerAfter reader held portion) (heldAfter reader held portion) (out ++ text reader held portion) (drop (taken reader held portion) portion ++ rest)
-underway-turn input reader held out portion rest way =
-    let seen = way .seen in
-    let same : reading (reader .lines) seen ≡ reader = ap (λ k. record { lines = reader .lines; passed = k }) (sym (way .passed)) in
-    subst (λ r. Underway input (readerAfter r held portion) (heldAfter r held portion) (out ++ text r held portion) (drop (taken r held portion) portion ++ rest)) same
-    (a-turn (reader .lines) seen held portion rest (way .holds) (way .cut) input out (way .left))
+module _ (input held out portion rest : List ℕ) where
+  abbrev pub AfterTurn : Reader → Type 0
+  AfterTurn r = Underway input (readerAfter r held portion) (heldAfter r held portion) (out ++ text r held portion) (drop (taken r held portion) portion ++ rest)
+
+  pub underway-turn : (reader : Reader) → Underway input reader held out (portion ++ rest) → AfterTurn reader
+  underway-turn reader way =
+      let seen = way .seen in
+      let same : reading (reader .lines) seen ≡ reader = ap (λ k. record { lines = reader .lines; passed = k }) (sym (way .passed)) in
+      subst AfterTurn same (a-turn (reader .lines) seen held portion rest (way .holds) (way .cut) input out (way .left))
 
 -- ---- the end
 

@@ -1,6 +1,5 @@
 -- `reader::turn` meets its contract.
 use mathlib.Core.Path.{_≡_, sym, _∙_}
-use mathlib.Core.Bool.{true, false}
 use native.Mathlib.Nat.{add-zero}
 use borrow.Author.Needs.{needs}
 use denote.Ref.{now}
@@ -19,18 +18,20 @@ add-t14 c = search needs
 is-unfinished-requires : tie.Need-is-unfinished-requires
 is-unfinished-requires c κs = search needs
 
+-- the test whether the record is then all there is the definition's
+told : (c : tie.After-is-unfinished) → let a = c .before .before .before .before .before .before .before .before .args in lacking-then (a .reader) (now (a .held)) (now (a .portion)) ≡ c .is-unfinished .result
+unfolding passedOn
+told c = let fed = c .before .before .before .feed .ensures in rw (← fed .0, ← fed .1 .1) (sym (c .is-unfinished .ensures))
+
 returns : tie.Need-returns
 unfolding passedOn
 returns c =
-    let fed = c .before .before .before .before in
-    let a = fed .before .before .before .before .before .args in
-    let held = now (a .held) in
-    let portion = now (a .portion) in
-    let on = fed .feed .ensures in
-    let lacks : lacking-then (a .reader) held portion ≡ true = rw (← on .0, ← on .1 .1) (sym (c .before .is-unfinished .ensures) ∙ c .if1 .taken) in
-    let none = no-text (a .reader) held portion lacks in (
-      rw (reader-on (a .reader) held portion lacks, on .0),
-      (on .0, (rw none (sym (add-zero (a .at))), (on .1 .1, rw none (nothing-written (now (a .out)) (a .at))))),
+    let a = c .before .before .before .before .before .before .before .before .before .args in
+    let fed = c .before .before .before .before .feed .ensures in
+    let lacks = told (c .before) ∙ c .if1 .taken in
+    let none = no-text (a .reader) (now (a .held)) (now (a .portion)) lacks in (
+      rw (reader-on (a .reader) (now (a .held)) (now (a .portion)) lacks, fed .0),
+      (fed .0, (rw none (sym (add-zero (a .at))), (fed .1 .1, rw none (nothing-written (now (a .out)) (a .at))))),
     )
 
 add-number : tie.Need-add-number
@@ -49,20 +50,17 @@ same-length-2 : tie.Need-same-length-2
 same-length-2 c = search needs
 
 returns-2 : tie.Need-returns-2
-unfolding passedOn
 returns-2 c =
     let put = c .before .before in
     let got = put .before .before .before .before in
     let tested = got .before .before .before .before in
     let fed = tested .before .before .before .before in
     let a = fed .before .before .before .before .before .args in
-    let held = now (a .held) in
-    let portion = now (a .portion) in
-    let on = fed .feed .ensures in
-    let whole : lacking-then (a .reader) held portion ≡ false = rw (← on .0, ← on .1 .1) (sym (tested .before .is-unfinished .ensures) ∙ tested .if1 .left) in
-    let line = rw (← on .1 .1, ← got .outcome-of .ensures) at (some-text (a .reader) held portion whole) in (
-      sym (reader-next (a .reader) held portion whole),
-      (on .0, (rw line (put .put-line .ensures .0), (on .1 .1, rw line (put .put-line .ensures .1)))),
+    let held-after = fed .feed .ensures .1 .1 in
+    let whole = told (tested .before) ∙ tested .if1 .left in
+    let line = rw (← held-after, ← got .outcome-of .ensures) at (some-text (a .reader) (now (a .held)) (now (a .portion)) whole) in (
+      sym (reader-next (a .reader) (now (a .held)) (now (a .portion)) whole),
+      (fed .feed .ensures .0, (rw line (put .put-line .ensures .0), (held-after, rw line (put .put-line .ensures .1)))),
     )
 
 pub turn-spec : {M : Type 1} → statement M
