@@ -1,5 +1,5 @@
 -- A field is the field of its first bytes and that of the others, above it; and floats that lie in a row, one more at the end. Assumes nothing.
-use mathlib.Core.Path.{_≡_, refl, sym, ap, _∙_}
+use mathlib.Core.Path.{_≡_, refl}
 use mathlib.Core.List.{List, [], _∷_, _++_}
 use Prim.Native.Nat.{ℕ, zero, suc, _+_, _*_, _^_, _<_}
 use native.Mathlib.Nat.{zero-add, suc-add, mul-assoc, pow-succ'}
