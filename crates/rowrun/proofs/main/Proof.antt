@@ -27,75 +27,66 @@ Inv-loop held₀ floats₀ input₀ out₀ reader₀ left₀ held floats input o
     × (reader .lines + left ≤ 2 ^ 63)
 
 abbrev μ-loop : tie.MeasureT-loop
-μ-loop held₀ floats₀ input₀ out₀ reader₀ left₀ held floats input out reader left =
-    left
+μ-loop held₀ floats₀ input₀ out₀ reader₀ left₀ held floats input out reader left = left
 
 start-requires : tie.Need-start-requires Inv-loop μ-loop
-start-requires c κs =
-    search needs
+start-requires c κs = search needs
 
 loop-holds : tie.Need-loop-holds Inv-loop μ-loop
-loop-holds c =
-    (search needs, search needs, search needs, unfinished-start _ _ (c .start .ensures .1), omega arith)
+loop-holds c = (search needs, search needs, search needs, unfinished-start _ _ (c .start .ensures .1), omega arith)
 
 slice-aggregate-read-some : tie.Need-slice-aggregate-read-some Inv-loop μ-loop
-slice-aggregate-read-some c =
-    sym (c .before .before .loop .inv .1)
+slice-aggregate-read-some c = sym (c .before .before .loop .inv .1)
 
 read-some-requires : tie.Need-read-some-requires Inv-loop μ-loop
-read-some-requires c κs =
-    search needs
+read-some-requires c κs = search needs
 
 slice-aggregate-print-portion : tie.Need-slice-aggregate-print-portion Inv-loop μ-loop
-slice-aggregate-print-portion c =
-    sym (c .before .before .before .before .before .before .before .loop .inv .0)
+slice-aggregate-print-portion c = sym (c .before .before .before .before .before .before .before .loop .inv .0)
 
 array-share-prefix-input : tie.Need-array-share-prefix-input Inv-loop μ-loop
-array-share-prefix-input c =
-    search needs
+array-share-prefix-input c = search needs
 
 slice-aggregate-print-portion-2 : tie.Need-slice-aggregate-print-portion-2 Inv-loop μ-loop
-slice-aggregate-print-portion-2 c =
-    sym (length-take-le _ _ (c .before .before .before .before .before .read-some .ensures .0))
+slice-aggregate-print-portion-2 c = sym (length-take-le _ _ (c .before .before .before .before .before .read-some .ensures .0))
 
 slice-aggregate-print-portion-3 : tie.Need-slice-aggregate-print-portion-3 Inv-loop μ-loop
-slice-aggregate-print-portion-3 c =
-    sym (c .before .before .before .before .before .before .before .before .before .loop .inv .2)
+slice-aggregate-print-portion-3 c = sym (c .before .before .before .before .before .before .before .before .before .loop .inv .2)
 
 print-portion-requires : tie.Need-print-portion-requires Inv-loop μ-loop
 print-portion-requires c κs =
-    let l = c .before .before .before .before .before .before .before .before .before .loop in
-    (l .inv .3, (fits (l .reader .lines) (l .left) (slice-aggregate-print-portion-2 (c .before)) (c .before .before .before .before .before .before .read-some .ensures .1) (l .inv .4), (omega arith, omega arith)))
+    let read = c .before .before .before .before .before .before in
+    let l = read .before .before .before .loop in
+    let all = slice-aggregate-print-portion-2 (c .before) in
+    (l .inv .3, (fits (l .reader .lines) (l .left) all (read .read-some .ensures .1) (l .inv .4), (omega arith, omega arith)))
 
 returns : tie.Need-returns Inv-loop μ-loop
-returns c =
-    search needs
+returns c = search needs
 
 sub-left : tie.Need-sub-left Inv-loop μ-loop
-sub-left c =
-    c .before .before .before .before .before .before .before .before .before .before .before .before .read-some .ensures .1
+sub-left c = c .before .before .before .before .before .before .before .before .before .before .before .before .read-some .ensures .1
 
 loop-less : tie.Need-loop-less Inv-loop μ-loop
-loop-less c =
-    omega arith
+loop-less c = omega arith
 
 loop-again : tie.Need-loop-again Inv-loop μ-loop
 loop-again c =
-    let l = c .before .before .before .before .before .before .before .before .before .before .before .before .before .before .before .loop in
-    let few = still-fits (l .reader .lines) (l .left) (slice-aggregate-print-portion-2 (c .before .before .before .before .before .before .before)) (c .before .before .before .before .before .before .before .before .before .before .before .before .read-some .ensures .1) (l .inv .4) _ (c .before .before .before .before .before .print-portion .ensures .1) in
-    (omega arith, omega arith, omega arith, c .before .before .before .before .before .print-portion .ensures .0, few)
+    let printed = c .before .before .before .before .before .print-portion .ensures in
+    let share = c .before .before .before .before .before .before .before in
+    let read = share .before .before .before .before .before in
+    let l = read .before .before .before .loop in
+    let all = slice-aggregate-print-portion-2 share in
+    let few = still-fits (l .reader .lines) (l .left) all (read .read-some .ensures .1) (l .inv .4) _ (printed .1) in
+    (omega arith, omega arith, omega arith, printed .0, few)
 
 slice-aggregate-print-end : tie.Need-slice-aggregate-print-end Inv-loop μ-loop
-slice-aggregate-print-end c =
-    sym (c .before .before .loop .inv .2)
+slice-aggregate-print-end c = sym (c .before .before .loop .inv .2)
 
 print-end-requires : tie.Need-print-end-requires Inv-loop μ-loop
-print-end-requires c κs =
-    (omega arith, omega arith)
+print-end-requires c κs = (omega arith, omega arith)
 
 returns-2 : tie.Need-returns-2 Inv-loop μ-loop
-returns-2 c =
-    search needs
+returns-2 c = search needs
 
 pub main-spec : {M : Type 1} → statement M
 main-spec =

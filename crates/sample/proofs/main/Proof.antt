@@ -15,56 +15,44 @@ Inv-loop held₀ floats₀ input out₀ n reader₀ i₀ held floats out reader 
     (i ≤ n) × (length floats ≡ 6144) × (length out ≡ 256) × (unfinished reader held ≡ true) × (reader .lines ≤ i)
 
 abbrev μ-loop : tie.MeasureT-loop
-μ-loop held₀ floats₀ input out₀ n reader₀ i₀ held floats out reader i =
-    n - i
+μ-loop held₀ floats₀ input out₀ n reader₀ i₀ held floats out reader i = n - i
 
 slice-aggregate-read-full : tie.Need-slice-aggregate-read-full Inv-loop μ-loop
-slice-aggregate-read-full c =
-    search needs
+slice-aggregate-read-full c = search needs
 
 read-full-requires : tie.Need-read-full-requires Inv-loop μ-loop
-read-full-requires c κs =
-    search needs
+read-full-requires c κs = search needs
 
 start-requires : tie.Need-start-requires Inv-loop μ-loop
-start-requires c κs =
-    search needs
+start-requires c κs = search needs
 
 loop-holds : tie.Need-loop-holds Inv-loop μ-loop
-loop-holds c =
-    (omega arith, search needs, search needs, unfinished-start _ _ (c .start .ensures .1), omega arith)
+loop-holds c = (omega arith, search needs, search needs, unfinished-start _ _ (c .start .ensures .1), omega arith)
 
 add-next : tie.Need-add-next Inv-loop μ-loop
-add-next c =
-    search needs
+add-next c = search needs
 
 slice-aggregate-print-portion : tie.Need-slice-aggregate-print-portion Inv-loop μ-loop
-slice-aggregate-print-portion c =
-    sym (c .before .before .before .loop .inv .1)
+slice-aggregate-print-portion c = sym (c .before .before .before .loop .inv .1)
 
 sub-print-portion : tie.Need-sub-print-portion Inv-loop μ-loop
-sub-print-portion c =
-    search needs
+sub-print-portion c = search needs
 
 part-print-portion-start : tie.Need-part-print-portion-start Inv-loop μ-loop
-part-print-portion-start c =
-    search needs
+part-print-portion-start c = search needs
 
 part-print-portion-end : tie.Need-part-print-portion-end Inv-loop μ-loop
-part-print-portion-end c =
-    search needs
+part-print-portion-end c = search needs
 
 slice-aggregate-print-portion-2 : tie.Need-slice-aggregate-print-portion-2 Inv-loop μ-loop
-slice-aggregate-print-portion-2 c =
-    sym (c .before .before .before .before .before .before .loop .inv .2)
+slice-aggregate-print-portion-2 c = sym (c .before .before .before .before .before .before .loop .inv .2)
 
 print-portion-requires : tie.Need-print-portion-requires Inv-loop μ-loop
 print-portion-requires c κs =
     (c .before .before .before .before .before .before .loop .inv .3, (simp length-take (omega arith), (omega arith, omega arith)))
 
 loop-less : tie.Need-loop-less Inv-loop μ-loop
-loop-less c =
-    omega arith
+loop-less c = omega arith
 
 loop-again : tie.Need-loop-again Inv-loop μ-loop
 loop-again c =
@@ -72,16 +60,13 @@ loop-again c =
     (omega arith, omega arith, omega arith, c .before .before .before .print-portion .ensures .0, omega arith)
 
 slice-aggregate-print-end : tie.Need-slice-aggregate-print-end Inv-loop μ-loop
-slice-aggregate-print-end c =
-    sym (c .before .before .loop .inv .2)
+slice-aggregate-print-end c = sym (c .before .before .loop .inv .2)
 
 print-end-requires : tie.Need-print-end-requires Inv-loop μ-loop
-print-end-requires c κs =
-    (omega arith, omega arith)
+print-end-requires c κs = (omega arith, omega arith)
 
 returns : tie.Need-returns Inv-loop μ-loop
-returns c =
-    search needs
+returns c = search needs
 
 pub main-spec : {M : Type 1} → statement M
 main-spec =
