@@ -1,4 +1,4 @@
--- What the entries of the static library return, and what they leave in the numbers lent to them. Assumes nothing.
+-- What the entries of the static library return, and what they leave in the numbers, or the record, lent to them. Assumes nothing.
 use Prim.Native.Nat.{ℕ}
 use mathlib.Core.Bool.{Bool, true, false}
 use lib.Ieee.{Float}
@@ -31,6 +31,7 @@ use Rattle.solve.specs.declared.Outcome.the-variants as outcome-is
 use Rattle.solve.specs.declared.Solution.{Solution}
 use Rattle.solve.specs.declared.Solution.the-variants as solution-is
 use Rattle.solve.specs.Solve.{values}
+use Rattle.kernel.specs.declared.Solved.{Solved}
 
 -- ---- what crosses as numbers
 
@@ -106,6 +107,22 @@ unfoldable pub solved : Numbers → Outcome → Numbers
 solved was (outcome-is.Answered a act n) = numbers (kindOf a) (values a) (marked (was .marks) act) n
 solved was (outcome-is.Stopped k n) = numbers (was .kind) (was .at) (marked (was .marks) noRows) n
 solved was (outcome-is.Refused k) = was
+
+-- the same in one record
+unfoldable pub solvedRecord : Solved → Outcome → Solved
+solvedRecord was (outcome-is.Answered a act n) =
+    record {
+      kind = kindOf a;
+      x = values a .x;
+      y = values a .y;
+      has1 = has (act .first);
+      row1 = rowIn (was .row1) (act .first);
+      has2 = has (act .second);
+      row2 = rowIn (was .row2) (act .second);
+      count = n;
+    }
+solvedRecord was (outcome-is.Stopped k n) = record { kind = was .kind; x = was .x; y = was .y; has1 = false; row1 = was .row1; has2 = false; row2 = was .row2; count = n }
+solvedRecord was (outcome-is.Refused k) = was
 
 unfoldable pub kindAfter : ℕ → Solution → ℕ
 kindAfter was (solution-is.Answered a) = kindOf a

@@ -1,5 +1,5 @@
 // The static library: every public entry for C. An entry returns 0 or the number of the refusal, and writes what it answers
-// through the numbers lent to it; what a refusal says nothing of stays as it was.
+// through the numbers, or the record, lent to it; what a refusal says nothing of stays as it was.
 use line::Active;
 use line::Bounds;
 use line::Slot;
@@ -25,7 +25,21 @@ ghost use Rattle.rows.specs.Rows.{normalizing, normalizedFlat, crossing};
 ghost use Rattle.line.specs.Line.{lp1d};
 ghost use Rattle.recover.specs.Recover.{recovering};
 ghost use Rattle.solve.specs.Solve.{solve, lp2dIncreMaxY, silent, number, values};
-ghost use Rattle.kernel.specs.Kernel.{row, point, tolerances, frame, task, slot, marks, collector, numbers, has, rowIn, marked, kindOf, solved, kindAfter, pointAfter, crossed, highAfter, lowAfter, recoveredAt, recoveredOn, ofNormalized, ofCrossing, ofBounds, ofRecovered, ofSolution};
+ghost use Rattle.lent.specs.Lent.{solveRows};
+ghost use Rattle.kernel.specs.Kernel.{row, point, tolerances, frame, task, slot, marks, collector, numbers, has, rowIn, marked, kindOf, solved, solvedRecord, kindAfter, pointAfter, crossed, highAfter, lowAfter, recoveredAt, recoveredOn, ofNormalized, ofCrossing, ofBounds, ofRecovered, ofSolution};
+
+// What a solve answers, as one record.
+#[repr(C)]
+pub struct Solved {
+    pub kind: u64,
+    pub x: f64,
+    pub y: f64,
+    pub has1: bool,
+    pub row1: usize,
+    pub has2: bool,
+    pub row2: usize,
+    pub count: u64,
+}
 
 // ---- to and from numbers
 
@@ -151,6 +165,95 @@ fn put_outcome(
             *count = n;
             0
         }
+    }
+}
+
+// ---- to a record
+
+fn has_row(found: Slot) -> bool
+    ensures { λ b. ⌜ b ≡ has found ⌝ }
+{
+    match found {
+        Slot::NoRow => false,
+        Slot::Holds(_) => true,
+    }
+}
+
+fn row_in(was: usize, found: Slot) -> usize
+    ensures { λ k. ⌜ k ≡ rowIn was found ⌝ }
+{
+    match found {
+        Slot::NoRow => was,
+        Slot::Holds(k) => k,
+    }
+}
+
+fn kind_of(a: Answer) -> u64
+    ensures { λ k. ⌜ k ≡ kindOf a ⌝ }
+{
+    match a {
+        Answer::Point(_, _) => 0,
+        Answer::Level(_) => 1,
+        Answer::Across(_) => 2,
+        Answer::Nothing => 3,
+    }
+}
+
+// A coordinate that the answer does not have is NaN.
+fn values_of(a: Answer) -> Point
+    ensures { λ p. ⌜ p ≡ values a ⌝ }
+{
+    let none = float::nan();
+    match a {
+        Answer::Point(x, y) => Point { x: x, y: y },
+        Answer::Level(y) => Point { x: none, y: y },
+        Answer::Across(x) => Point { x: x, y: none },
+        Answer::Nothing => Point { x: none, y: none },
+    }
+}
+
+// What the record holds after a solve: refusals 1 and 2 leave it as it was.
+fn solved_of(got: Outcome, was: Solved) -> Solved
+    ensures { λ s. ⌜ s ≡ solvedRecord was got ⌝ }
+{
+    match got {
+        Outcome::Refused(_) => was,
+        Outcome::Stopped(_, taken) => Solved {
+            kind: was.kind,
+            x: was.x,
+            y: was.y,
+            has1: false,
+            row1: was.row1,
+            has2: false,
+            row2: was.row2,
+            count: taken,
+        },
+        Outcome::Answered(a, act, n) => {
+            let one = act.first;
+            let other = act.second;
+            let at = values_of(a);
+            Solved {
+                kind: kind_of(a),
+                x: at.x,
+                y: at.y,
+                has1: has_row(one),
+                row1: row_in(was.row1, one),
+                has2: has_row(other),
+                row2: row_in(was.row2, other),
+                count: n,
+            }
+        }
+    }
+}
+
+// The paper's number, 0 without a refusal.
+fn number_of(got: Outcome) -> u64
+    ensures { λ r. ⌜ r ≡ number got ⌝ }
+{
+    match got {
+        Outcome::Refused(k) => k,
+        Outcome::Stopped(k, _) => k,
+        Outcome::Answered(_, _, _) => 0,
     }
 }
 
@@ -316,6 +419,29 @@ pub extern "C" fn ravelsickle_solve(
         allowance,
     );
     put_outcome(got, kind, x, y, has1, row1, has2, row2, count)
+}
+
+// The solve of rows that are records, which answers in a record.
+#[no_mangle]
+pub extern "C" fn ravelsickle_solve_rows(
+    rows: &mut [Row],
+    feasibility: f64,
+    scale: f64,
+    x0: f64,
+    y0: f64,
+    skip: usize,
+    normalize: bool,
+    allowance: u64,
+    answer: &mut Solved,
+) -> u64
+    ensures answer { λ r. ⌜ r ≡ number (solveRows (task feasibility scale x0 y0 skip normalize) allowance (now (rows .entry)) .outcome) ⌝ }
+    ensures lent { λ _. ⌜ now (rows .exit) ≡ solveRows (task feasibility scale x0 y0 skip normalize) allowance (now (rows .entry)) .rows ⌝ }
+    ensures written { λ _. ⌜ now (answer .exit) ≡ solvedRecord (now (answer .entry)) (solveRows (task feasibility scale x0 y0 skip normalize) allowance (now (rows .entry)) .outcome) ⌝ }
+{
+    let t = task_of(feasibility, scale, x0, y0, skip, normalize);
+    let got = lent::solve_rows(rows, t, allowance);
+    *answer = solved_of(got, *answer);
+    number_of(got)
 }
 
 // The source's own entry, with no allowance and a silent collector.
