@@ -2,8 +2,8 @@
  * Ravelsickle for C and C++: the highest y under half-planes a*x + b*y <= c, within a number of row readings that is
  * known beforehand.
  *
- * Link the static library that `rt staticlib kernel` writes (target/staticlib/libkernel.a, for x86-64). It needs nothing
- * else: it calls no function, allocates nothing and keeps nothing between calls, so that threads may call it at once on
+ * Link the static library that `rt staticlib kernel` writes (target/staticlib/libkernel.a, for x86-64). It calls C's
+ * memset and nothing else, allocates nothing and keeps nothing between calls, so that threads may call it at once on
  * memory of their own.
  *
  * What every entry asks of C, since C cannot say it in a type:
@@ -113,11 +113,26 @@ uint64_t ravelsickle_solve(double *rows, size_t floats, double feasibility, doub
                            size_t skip, bool normalize, uint64_t allowance, uint64_t *kind, double *x, double *y,
                            bool *has_first, size_t *first, bool *has_second, size_t *second, uint64_t *count);
 
-/* ravelsickle_solve over an array of rows. Refusal 1 cannot come. */
+/* What came back. A row's number means something only where its flag is true. */
+struct ravelsickle_answer {
+    uint64_t kind;
+    double x;
+    double y;
+    bool has_first;
+    size_t first;
+    bool has_second;
+    size_t second;
+    uint64_t count;
+};
+
+/*
+ * ravelsickle_solve over an array of rows, with what it answers in a record: on 0 and on each refusal `answer` holds what
+ * ravelsickle_solve would leave in the numbers of the same names. Refusal 1 cannot come. The rows are copied and copied
+ * back, by way of 96 KiB of stack; ravelsickle_solve takes the same memory as it is, with &rows->a and 3 * rows_count.
+ */
 uint64_t ravelsickle_solve_rows(struct ravelsickle_row *rows, size_t rows_count, double feasibility, double scale,
-                                double x0, double y0, size_t skip, bool normalize, uint64_t allowance, uint64_t *kind,
-                                double *x, double *y, bool *has_first, size_t *first, bool *has_second, size_t *second,
-                                uint64_t *count);
+                                double x0, double y0, size_t skip, bool normalize, uint64_t allowance,
+                                struct ravelsickle_answer *answer);
 
 /*
  * The original's own entry: the same answer, without an allowance, active rows or count.
@@ -143,7 +158,7 @@ uint64_t ravelsickle_recover_2d_prefix(const double *rows, size_t floats, size_t
                                        double bound, double epsilon, double reduced, double *x, double *y,
                                        bool *has_first, size_t *first, bool *has_second, size_t *second);
 
-/* ---- The same solve with its numbers in records ---- */
+/* ---- The same solve with its task in a record ---- */
 
 /* What to solve, and how. */
 struct ravelsickle_task {
@@ -154,18 +169,6 @@ struct ravelsickle_task {
     size_t skip;
     bool normalize;
     uint64_t allowance;
-};
-
-/* What came back. A row's number means something only where its flag is true. */
-struct ravelsickle_answer {
-    uint64_t kind;
-    double x;
-    double y;
-    bool has_first;
-    size_t first;
-    bool has_second;
-    size_t second;
-    uint64_t count;
 };
 
 /* The original's usual tolerances, a start beyond the set, no row skipped, no normalising, and no limit on readings. */
@@ -195,13 +198,11 @@ static inline struct ravelsickle_answer ravelsickle_no_answer(void) {
     return answer;
 }
 
-/* ravelsickle_solve_rows with records. `answer` has a value before the call: ravelsickle_no_answer() gives one. */
+/* ravelsickle_solve_rows with a task. `answer` has a value before the call: ravelsickle_no_answer() gives one. */
 static inline uint64_t ravelsickle_solve_task(struct ravelsickle_row *rows, size_t rows_count,
                                               const struct ravelsickle_task *task, struct ravelsickle_answer *answer) {
     return ravelsickle_solve_rows(rows, rows_count, task->feasibility, task->scale, task->x0, task->y0, task->skip,
-                                  task->normalize, task->allowance, &answer->kind, &answer->x, &answer->y,
-                                  &answer->has_first, &answer->first, &answer->has_second, &answer->second,
-                                  &answer->count);
+                                  task->normalize, task->allowance, answer);
 }
 
 #ifdef __cplusplus

@@ -67,11 +67,20 @@ static void make_call(void) {
                                         &call.kind, &call.x, &call.y, &has_first, &first, &has_second, &second,
                                         &call.count);
         break;
-    case RELAY_SOLVE_ROWS:
+    case RELAY_SOLVE_ROWS: {
+        struct ravelsickle_answer answer = {call.kind, call.x, call.y, has_first, first, has_second, second, call.count};
         call.number = ravelsickle_solve_rows((struct ravelsickle_row *)floats, call.floats / 3, g[0], g[1], g[2], g[3],
-                                             call.rows, flag, call.allowance, &call.kind, &call.x, &call.y, &has_first,
-                                             &first, &has_second, &second, &call.count);
+                                             call.rows, flag, call.allowance, &answer);
+        call.kind = answer.kind;
+        call.x = answer.x;
+        call.y = answer.y;
+        has_first = answer.has_first;
+        first = answer.first;
+        has_second = answer.has_second;
+        second = answer.second;
+        call.count = answer.count;
         break;
+    }
     case RELAY_INCRE_MAX_Y:
         call.number = ravelsickle_lp_2d_incre_max_y(floats, call.floats, g[0], g[1], g[2], g[3], call.rows, flag,
                                                     &call.kind, &call.x, &call.y);

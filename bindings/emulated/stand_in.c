@@ -209,13 +209,13 @@ uint64_t ravelsickle_solve(double *rows, size_t floats, double feasibility, doub
 }
 
 uint64_t ravelsickle_solve_rows(struct ravelsickle_row *rows, size_t rows_count, double feasibility, double scale,
-                                double x0, double y0, size_t skip, bool normalize, uint64_t allowance, uint64_t *kind,
-                                double *x, double *y, bool *has_first, size_t *first, bool *has_second, size_t *second,
-                                uint64_t *count) {
+                                double x0, double y0, size_t skip, bool normalize, uint64_t allowance,
+                                struct ravelsickle_answer *answer) {
     struct relay_call call = call_of(RELAY_SOLVE_ROWS, 3 * rows_count);
     put_task(&call, feasibility, scale, x0, y0, skip, normalize);
     call.allowance = allowance;
-    return relay_solve(&call, (double *)rows, kind, x, y, has_first, first, has_second, second, count);
+    return relay_solve(&call, (double *)rows, &answer->kind, &answer->x, &answer->y, &answer->has_first, &answer->first,
+                       &answer->has_second, &answer->second, &answer->count);
 }
 
 uint64_t ravelsickle_lp_2d_incre_max_y(double *rows, size_t floats, double feasibility, double scale, double x0,

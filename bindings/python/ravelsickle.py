@@ -173,7 +173,6 @@ _ENTRIES = {
     "ravelsickle_lp_1d": (_number, [_floats, _size, _flag, _double, _double] + [_to(_double)] * 2),
     "ravelsickle_solve": (_number, [_floats, _size] + _TASK + [_number] + _ANSWER + _ROWS_HELD + [_to(_number)]),
     # an array of rows is the same memory as its floats, so the pointer is to floats and the size counts rows
-    "ravelsickle_solve_rows": (_number, [_floats, _size] + _TASK + [_number] + _ANSWER + _ROWS_HELD + [_to(_number)]),
     "ravelsickle_lp_2d_incre_max_y": (_number, [_floats, _size] + _TASK + _ANSWER),
     "ravelsickle_recover_2d_prefix": (
         _number,
@@ -217,9 +216,6 @@ _library = _load(_shared_object())
 class _Buffer:
     """The memory of a buffer, lent as it is."""
 
-    # Whether the rows are whole because of how they are given.
-    by_rows = False
-
     def __init__(self, view: memoryview):
         self.count = view.nbytes // view.itemsize
         self.memory = (ctypes.c_double * self.count).from_buffer(view)
@@ -243,8 +239,6 @@ class _Copy:
 class _FlatList(_Copy):
     """The floats of a list, written back where the entry changed any."""
 
-    by_rows = False
-
     def __init__(self, floats: list):
         super().__init__(floats)
         self.floats = floats
@@ -257,8 +251,6 @@ class _FlatList(_Copy):
 class _ListOfRows(_Copy):
     """The floats of a list of rows, written back where the entry changed any: into a row that is a list, and in the
     place of one that is a tuple."""
-
-    by_rows = True
 
     def __init__(self, rows: list):
         super().__init__([x for row in rows for x in row])
@@ -433,14 +425,10 @@ def solve(
     task = _task(start, tolerances, normalize)
     allowed = _whole(allowance, "an allowance", 64)
     lent = _lend(rows)
-    if lent.by_rows:
-        entry, size = _library.ravelsickle_solve_rows, lent.count // 3
-    else:
-        entry, size = _library.ravelsickle_solve, lent.count
     kind, x, y, count = _number(), _double(), _double(), _number()
     first, second = _Slot(), _Slot()
-    number = entry(
-        lent.memory, size, *task, allowed, kind, x, y, first.held, first.row, second.held, second.row, count
+    number = _library.ravelsickle_solve(
+        lent.memory, lent.count, *task, allowed, kind, x, y, first.held, first.row, second.held, second.row, count
     )
     lent.give_back()
     _check(number, count.value)

@@ -1,7 +1,5 @@
 //! The library's entries as C sees them. `bindings/c/ravelsickle.h` says what each does and what a refusal leaves.
 
-use crate::Row;
-
 extern "C" {
     pub(crate) fn ravelsickle_root(x: f64) -> f64;
 
@@ -33,26 +31,6 @@ extern "C" {
     pub(crate) fn ravelsickle_solve(
         rows: *mut f64,
         floats: usize,
-        feasibility: f64,
-        scale: f64,
-        x0: f64,
-        y0: f64,
-        skip: usize,
-        normalize: bool,
-        allowance: u64,
-        kind: *mut u64,
-        x: *mut f64,
-        y: *mut f64,
-        has_first: *mut bool,
-        first: *mut usize,
-        has_second: *mut bool,
-        second: *mut usize,
-        count: *mut u64,
-    ) -> u64;
-
-    pub(crate) fn ravelsickle_solve_rows(
-        rows: *mut Row,
-        rows_count: usize,
         feasibility: f64,
         scale: f64,
         x0: f64,

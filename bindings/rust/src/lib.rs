@@ -378,31 +378,7 @@ pub fn lp_1d(pairs: &[[f64; 2]], autonan: bool, tolerances: Tolerances) -> Resul
 /// assert_eq!(solve(&mut rows, &Task::default(), 6), Err(Refusal::Stopped { count: 6 }));
 /// ```
 pub fn solve(rows: &mut [Row], task: &Task, allowance: u64) -> Result<Solved, Refusal> {
-    let mut lent = Lent::default();
-    // SAFETY: the first pointer and the length are those of one slice, lent mutably, of rows laid out as in C; the others
-    // lead to different numbers of this function, which all have a value.
-    let number = unsafe {
-        entries::ravelsickle_solve_rows(
-            rows.as_mut_ptr(),
-            rows.len(),
-            task.tolerances.feasibility,
-            task.tolerances.scale,
-            task.start.x,
-            task.start.y,
-            task.start.skip,
-            task.normalize.is_on(),
-            allowance,
-            &mut lent.kind,
-            &mut lent.x,
-            &mut lent.y,
-            &mut lent.first.held,
-            &mut lent.first.row,
-            &mut lent.second.held,
-            &mut lent.second.row,
-            &mut lent.count,
-        )
-    };
-    lent.solved(number)
+    solve_flat(floats_mut(rows), task, allowance)
 }
 
 /// [`solve`] of rows that lie flat, three floats to a row. Refusals 1, 2 and 3.
