@@ -4,11 +4,11 @@
 import argparse
 import math
 import re
-import sys
 import textwrap
-from dataclasses import dataclass
 from xml.sax.saxutils import escape
 
+import answers
+import command
 import plane
 import records
 
@@ -22,71 +22,6 @@ LETTER_WIDTH, LETTER_HEIGHT = 6.6, 14  # of the labels in the plot
 # Colours that stay apart for every kind of colour blindness (Okabe and Ito's).
 FIRST, SECOND, FEASIBLE = "#D55E00", "#0072B2", "#009E73"
 PLAIN, SHADE, INK, GRID = "#5F6B76", "#8A97A3", "#1B1F23", "#E3E7EA"
-
-REFUSALS = {
-    1: "the floats lent do not come out even",
-    2: "too many rows",
-    3: "the count is above the allowance",
-    4: "all seven solves passed without an answer",
-    5: "the determinant is not finite or within its error bound",
-    6: "recovery found nothing",
-    7: "the prefix is longer than the rows",
-    8: "the record is cut by the end of input",
-    9: "unknown kind of record",
-    10: "body of wrong size, or normalise byte above 1",
-}
-
-HEX, INDEX, COUNT = "([0-9A-Fa-f]{16})", r"([0-9]+|-)", "([0-9]+)"
-FORMS = {
-    "point": re.compile(f"[0-9]+ point {HEX} {HEX} {INDEX} {INDEX} {COUNT}"),
-    "level": re.compile(f"[0-9]+ level ()?{HEX} {INDEX} {INDEX} {COUNT}"),
-    "across": re.compile(f"[0-9]+ across {HEX} ()?{INDEX} {INDEX} {COUNT}"),
-    "nothing": re.compile(f"[0-9]+ nothing ()?()?{INDEX} {INDEX} {COUNT}"),
-}
-REFUSED = re.compile("[0-9]+ refused ([0-9]+)")
-
-
-@dataclass
-class Answer:
-    """What rowrun answered. x and y are None where the answer has none, first and second for no row."""
-
-    kind: str
-    x: float = None
-    y: float = None
-    first: int = None
-    second: int = None
-    count: int = None
-    refusal: int = None
-
-    def active(self):
-        return [number for number in (self.first, self.second) if number is not None]
-
-
-def read_answer(line):
-    """The answer of one line of rowrun."""
-    match = REFUSED.fullmatch(line)
-    if match:
-        return Answer("refused", refusal=int(match[1]))
-    for kind, form in FORMS.items():
-        match = form.fullmatch(line)
-        if match:
-            x, y = (records.float_of(int(digits, 16)) if digits else None for digits in match.groups()[:2])
-            if any(value is not None and math.isnan(value) for value in (x, y)):
-                raise ValueError("a coordinate is NaN")
-            first, second = (None if word == "-" else int(word) for word in match.groups()[2:4])
-            return Answer(kind, x, y, first, second, int(match[5]))
-    raise ValueError(f"not a line of rowrun: '{line[:60]}'")
-
-
-def find_answer(data, name, number):
-    """The answer to record `number` among the lines of rowrun."""
-    for place, line in enumerate(data.decode("utf-8", "replace").splitlines(), 1):
-        if line.split()[:1] == [str(number)]:
-            try:
-                return read_answer(line.strip())
-            except ValueError as wrong:
-                raise records.TextError(name, place, wrong) from None
-    raise ValueError(f"{name}: no line for record {number}")
 
 
 def looks_like_records(data):
@@ -117,35 +52,6 @@ def short(number):
 def brief(number):
     """A number in six digits, for the caption and the labels."""
     return short(float(format(number, ".6g")))
-
-
-def say_active(answer):
-    """The active rows in words."""
-    if answer.first is not None and answer.second is not None:
-        return f"rows {answer.first} and {answer.second}"
-    if answer.first is not None:
-        return f"first active row {answer.first}, no second"
-    if answer.second is not None:
-        return f"no first active row, second {answer.second}"
-    return "no active rows"
-
-
-def say_place(answer):
-    """The answer without rows and count, in words."""
-    if answer.kind == "point":
-        return f"point ({brief(answer.x)}, {brief(answer.y)})"
-    if answer.kind == "level":
-        return f"level y = {brief(answer.y)}, x is open"
-    if answer.kind == "across":
-        return f"across x = {brief(answer.x)}, y is open"
-    return "nothing: neither x nor y"
-
-
-def say_answer(answer):
-    """The whole answer in words."""
-    if answer.kind == "refused":
-        return f"refused {answer.refusal}: {REFUSALS.get(answer.refusal, 'no meaning is known for this number')}"
-    return f"{say_place(answer)}, {say_active(answer)}, count {answer.count}"
 
 
 def say_term(factor, letter, leading):
@@ -411,7 +317,7 @@ def draw_answer_line(picture, at, answer):
 def caption(problem, answer, missing, outside, left_over):
     """The lines under the picture, the first of them in bold."""
     rows = problem.float_rows()
-    lines = textwrap.wrap(say_answer(answer), BOLD_LETTERS)
+    lines = textwrap.wrap(answers.say_answer(answer, brief), BOLD_LETTERS)
     lines += [say_row(place, rows[place]) for place in dict.fromkeys(answer.active())]
     if missing:
         lines.append(say_list("No boundary, not drawn: ", missing))
@@ -467,7 +373,7 @@ def draw(number, record, answer):
     lines = caption(problem, answer, missing, outside, left_over)
     title = say_title(number, record)
     draw_caption(picture, title, lines)
-    return compose(picture, title, say_answer(answer))
+    return compose(picture, title, answers.say_answer(answer, brief))
 
 
 def say_title(number, record):
@@ -491,17 +397,17 @@ def main(arguments=None):
     if chosen.problem == chosen.answers == "-":
         parser.error("only one of PROBLEM and ANSWERS can be standard input")
     try:
-        record = find_record(records.read_input(chosen.problem), chosen.problem, chosen.record, chosen.form)
-        answer = find_answer(records.read_input(chosen.answers), chosen.answers, chosen.record)
+        record = find_record(command.read_input(chosen.problem), chosen.problem, chosen.record, chosen.form)
+        answer = answers.find_answer(command.read_input(chosen.answers), chosen.answers, chosen.record)
         picture = draw(chosen.record, record, answer)
     except OSError as wrong:
-        print(f"{wrong.filename or 'input'}: {wrong.strerror or wrong}", file=sys.stderr)
+        command.complain(command.say_failure(wrong))
         return 2
     except (ValueError, records.TextError) as wrong:
-        print(wrong, file=sys.stderr)
+        command.complain(wrong)
         return 2
-    return records.write_output(picture.encode())
+    return command.write_output(picture.encode())
 
 
 if __name__ == "__main__":
-    sys.exit(main())
+    command.run(main)

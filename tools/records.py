@@ -3,10 +3,10 @@
 
 import argparse
 import codecs
-import os
 import struct
-import sys
 from dataclasses import dataclass, field
+
+import command
 
 HEADER = struct.Struct("<IH")  # length of the body, kind of the record
 FRONT = struct.Struct("<6QB")  # tolerance, scale, x0, y0 as bits; skip, allowance; normalise
@@ -283,48 +283,22 @@ def parse_text(data, name, before=()):
 # The command
 
 
-def read_input(name):
-    """The whole of a file, or of standard input for '-'."""
-    if name != "-":
-        with open(name, "rb") as file:
-            return file.read()
-    if sys.stdin is None:
-        raise OSError("standard input is closed")
-    return sys.stdin.buffer.read()
-
-
-def write_output(data):
-    """Writes bytes to standard output. The exit status: 1 when they cannot all be written."""
-    if sys.stdout is None:
-        return 1
-    try:
-        sys.stdout.buffer.write(data)
-        sys.stdout.buffer.flush()
-        return 0
-    except OSError as wrong:
-        # What is still buffered must not be tried again, and complained of, at exit.
-        os.dup2(os.open(os.devnull, os.O_WRONLY), sys.stdout.fileno())
-        if not isinstance(wrong, BrokenPipeError):
-            print(f"standard output: {wrong.strerror}", file=sys.stderr)
-        return 1
-
-
 def pack(names):
     """Packs texts, all or none of them: the first error of each is named."""
     records = []
     failed = False
     for name in names:
         try:
-            records += parse_text(read_input(name), "standard input" if name == "-" else name, records)
+            records += parse_text(command.read_input(name), "standard input" if name == "-" else name, records)
         except TextError as wrong:
             failed = True
-            print(wrong, file=sys.stderr)
-    return 2 if failed else write_output(write_records(records))
+            command.complain(wrong)
+    return 2 if failed else command.write_output(write_records(records))
 
 
 def unpack(name):
     """Unpacks a stream of records."""
-    return write_output(format_text(read_records(read_input(name))).encode())
+    return command.write_output(format_text(read_records(command.read_input(name))).encode())
 
 
 def main(arguments=None):
@@ -338,9 +312,9 @@ def main(arguments=None):
     try:
         return pack(chosen.files or ["-"]) if chosen.command == "pack" else unpack(chosen.file)
     except OSError as wrong:
-        print(f"{wrong.filename or 'input'}: {wrong.strerror or wrong}", file=sys.stderr)
+        command.complain(command.say_failure(wrong))
         return 2
 
 
 if __name__ == "__main__":
-    sys.exit(main())
+    command.run(main)

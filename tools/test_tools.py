@@ -1,21 +1,27 @@
-"""Tests of records.py and draw.py: python3 -m unittest discover tools
+"""Tests of the tools: python3 -m unittest discover tools
 
-The round trip of a whole stream takes crates/rowrun/stdin and its stdout, or the files that the environment
-variables ROWRUN_RECORDS and ROWRUN_ANSWERS name.
+They need neither rt nor rowrun, for which scripts stand in. The round trip of a whole stream takes
+crates/rowrun/stdin and its stdout, or the files that the environment variables ROWRUN_RECORDS and ROWRUN_ANSWERS name.
 """
 
 import math
 import os
 import pathlib
 import random
+import shutil
+import signal
+import stat
 import struct
 import subprocess
 import sys
 import tempfile
+import threading
 import time
 import unittest
 import xml.etree.ElementTree
 
+import answers
+import command
 import draw
 import plane
 import records
@@ -31,9 +37,9 @@ def stream_file(variable, name):
     return path if path.is_file() else None
 
 
-def run(command, *arguments, given=b""):
+def run(name, *arguments, given=b""):
     """Runs a command of this directory to its end."""
-    return subprocess.run([sys.executable, str(HERE / command), *map(str, arguments)], input=given, capture_output=True)
+    return subprocess.run([sys.executable, str(HERE / name), *map(str, arguments)], input=given, capture_output=True)
 
 
 def hexed(number):
@@ -214,8 +220,8 @@ class Commands(unittest.TestCase):
         self.assertEqual(run("records.py", "unpack", given=record(7, b"\xaa")).stdout, b"# record 1\nraw kind=7 body=AA\n")
 
     def test_empty_input(self):
-        for command in ("pack", "unpack"):
-            done = run("records.py", command)
+        for verb in ("pack", "unpack"):
+            done = run("records.py", verb)
             self.assertEqual((done.returncode, done.stdout, done.stderr), (0, b"", b""))
 
     def test_an_error_writes_nothing(self):
@@ -230,15 +236,18 @@ class Commands(unittest.TestCase):
         self.assertTrue(done.stderr.decode().endswith("two:2: nothing can follow a tail\n"))
 
     def test_a_missing_file(self):
-        for command in ("pack", "unpack"):
-            done = run("records.py", command, self.directory / "none")
+        for verb in ("pack", "unpack"):
+            done = run("records.py", verb, self.directory / "none")
             self.assertEqual((done.returncode, done.stdout), (2, b""))
             self.assertEqual(done.stderr.decode(), f"{self.directory / 'none'}: No such file or directory\n")
 
+    def start(self, *words, **streams):
+        """Starts a command of this directory."""
+        return subprocess.Popen([sys.executable, str(HERE / words[0]), *map(str, words[1:])], stderr=subprocess.PIPE, **streams)
+
     def test_input_that_comes_in_pieces(self):
         data = record(1, body((1, 2, 3)))
-        command = [sys.executable, str(HERE / "records.py"), "unpack"]
-        with subprocess.Popen(command, stdin=subprocess.PIPE, stdout=subprocess.PIPE) as process:
+        with self.start("records.py", "unpack", stdin=subprocess.PIPE, stdout=subprocess.PIPE) as process:
             for piece in (data[:3], data[3:40], data[40:]):
                 process.stdin.write(piece)
                 process.stdin.flush()
@@ -246,16 +255,87 @@ class Commands(unittest.TestCase):
             process.stdin.close()
             self.assertEqual(process.stdout.read(), run("records.py", "unpack", given=data).stdout)
 
+    def test_reads_that_are_interrupted_or_have_nothing_yet(self):
+        data = record(1, body((1, 2, 3))) * 2000  # more than a pipe holds
+        reader, writer = os.pipe()
+        os.set_blocking(reader, False)
+        with self.start("records.py", "unpack", stdin=reader, stdout=subprocess.PIPE) as process, open(writer, "wb") as sink:
+            os.close(reader)
+            said = []
+            taking = threading.Thread(target=lambda: said.append(process.stdout.read()))
+            taking.start()
+            for place in range(0, len(data), 60000):
+                time.sleep(0.05)
+                process.send_signal(signal.SIGSTOP)
+                process.send_signal(signal.SIGCONT)
+                sink.write(data[place : place + 60000])
+                sink.flush()
+            sink.close()
+            taking.join()
+        self.assertEqual(said[0], run("records.py", "unpack", given=data).stdout)
+        self.assertEqual(process.returncode, 0)
+
+    def test_a_signal_during_a_read(self):
+        reader, writer = os.pipe()
+        rings = []
+        before = signal.signal(signal.SIGALRM, lambda *_: rings.append(os.write(writer, b"x") if len(rings) < 3 else os.close(writer)))
+        self.addCleanup(signal.signal, signal.SIGALRM, before)
+        self.addCleanup(signal.setitimer, signal.ITIMER_REAL, 0)
+        signal.setitimer(signal.ITIMER_REAL, 0.05, 0.05)
+        try:
+            self.assertEqual(command.read_all(reader), b"xxx")
+        finally:
+            signal.setitimer(signal.ITIMER_REAL, 0)
+            os.close(reader)
+
+    def test_output_that_is_taken_slowly(self):
+        data = record(1, body((1, 2, 3))) * 5000
+        reader, writer = os.pipe()
+        os.set_blocking(writer, False)
+        stream = self.file("stream", data)
+        with self.start("records.py", "unpack", stream, stdout=writer) as process, open(reader, "rb") as source:
+            os.close(writer)
+            taken = b""
+            while True:
+                portion = source.read1(50000)
+                if not portion:
+                    break
+                taken += portion
+                time.sleep(0.005)
+        self.assertEqual((process.returncode, taken), (0, run("records.py", "unpack", stream).stdout))
+
     def test_closed_output(self):
         large = self.file("large", b"lp\n" + b"1 2 3\n" * 20000)
         small = self.file("small", b"lp\n1 2 3")  # fails only when it is flushed
-        for command in (["records.py", "pack", large], ["records.py", "pack", small], ["draw.py", HERE / "sample.txt", self.file("a", SAMPLE_ANSWERS)]):
+        drawing = ["draw.py", HERE / "sample.txt", self.file("a", SAMPLE_ANSWERS)]
+        for words in (["records.py", "pack", large], ["records.py", "pack", small], drawing, ["draw.py", "--help"]):
             reader, writer = os.pipe()
             os.close(reader)  # nobody reads: the first write fails
-            arguments = [sys.executable, str(HERE / command[0]), *map(str, command[1:])]
-            done = subprocess.run(arguments, stdout=writer, stderr=subprocess.PIPE)
-            os.close(writer)
-            self.assertEqual((done.returncode, done.stderr), (1, b""))
+            with self.start(*words, stdout=writer) as process:
+                os.close(writer)
+                self.assertEqual(process.stderr.read(), b"", words)
+            self.assertIn(process.returncode, (0, 1) if "--help" in words else (1,), words)
+
+    def test_output_that_cannot_be_written(self):
+        small = self.file("small", b"lp\n1 2 3")
+        with open("/dev/full", "wb") as full, self.start("records.py", "pack", small, stdout=full) as process:
+            self.assertEqual((process.stderr.read(), process.wait()), (b"standard output: No space left on device\n", 1))
+        for closed, wanted in ((1, b"standard output: it is closed\n"), (0, b"input: standard input is closed\n")):
+            words = ["records.py", "pack"] + ([small] if closed == 1 else [])
+            with self.start(*words, stdout=subprocess.DEVNULL, preexec_fn=lambda: os.close(closed)) as process:
+                self.assertEqual(process.stderr.read(), wanted)
+            self.assertNotEqual(process.returncode, 0)
+
+    def test_messages_never_go_to_standard_output(self):
+        bad = self.file("bad", b"lp\n1 2")
+        with self.start("records.py", "pack", bad, stdout=subprocess.PIPE, preexec_fn=lambda: os.close(2)) as process:
+            self.assertEqual((process.stdout.read(), process.wait()), (b"", 2))
+
+    def test_stopped_by_hand(self):
+        with self.start("records.py", "pack", stdin=subprocess.PIPE, stdout=subprocess.PIPE) as process:
+            time.sleep(0.5)
+            process.send_signal(signal.SIGINT)
+            self.assertEqual((process.wait(), process.stderr.read()), (130, b""))
 
     def test_drawing_by_text_and_by_records(self):
         answers = self.file("answers", SAMPLE_ANSWERS)
@@ -326,7 +406,7 @@ class Svg:
 def picture(rows, line, **front):
     """The picture of a problem with these rows and this line of rowrun without its number."""
     content = records.read_records(record(1, body(*rows, **front)))[0]
-    return Svg(draw.draw(1, content, draw.read_answer(f"1 {line}")))
+    return Svg(draw.draw(1, content, answers.read_line(f"1 {line}")[1]))
 
 
 def point(x, y, rest="- - 7"):
@@ -390,20 +470,12 @@ class Drawing(unittest.TestCase):
     def test_captions(self):
         one = (hexed(1), hexed(-2.5))
         for line, wanted in [
-            (f"point {one[0]} {one[1]} 0 1 7", "point (1, -2.5), rows 0 and 1, count 7"),
-            (f"point {one[0]} {one[1]} 1 - 23", "point (1, -2.5), first active row 1, no second, count 23"),
-            (f"point {one[0]} {one[1]} - 1 23", "point (1, -2.5), no first active row, second 1, count 23"),
-            (f"level {one[1]} - - 1", "level y = -2.5, x is open, no active rows, count 1"),
-            (f"across {one[1]} - - 4", "across x = -2.5, y is open, no active rows, count 4"),
-            ("nothing - - 0", "nothing: neither x nor y, no active rows, count 0"),
-            ("refused 3", "refused 3: the count is above the allowance"),
-            ("refused 11", "refused 11: no meaning is known for this number"),
+            (f"point {one[0]} {one[1]} 0 1 7", "point x = 1, y = -2.5; active rows 0 and 1; 7 readings"),
+            (f"level {one[1]} - - 1", "level y = -2.5, x is open; no active rows; 1 reading"),
+            (point(1 / 3, 2e6 / 3), "point x = 0.333333, y = 666667; no active rows; 7 readings"),
+            ("refused 3", "refused 3: the answer takes more readings than the allowance"),
         ]:
             self.assertEqual(picture(self.S3, line).captions[0], wanted)
-
-    def test_every_refusal_has_its_own_meaning(self):
-        captions = {picture(self.S3, f"refused {number}").captions[0] for number in range(1, 11)}
-        self.assertEqual(len({caption.split(": ")[1] for caption in captions}), 10)
 
     def test_active_rows_as_inequalities(self):
         drawn = picture([(-1, 0.5, 2), (0, -3, 1e24)], point(0, 0, "0 1 7"))
@@ -461,7 +533,7 @@ class Drawing(unittest.TestCase):
 
     def test_labels_of_the_example_keep_apart(self):
         problem = records.parse_text((HERE / "example.txt").read_bytes(), "example")[0]
-        drawn = Svg(draw.draw(1, problem, draw.read_answer("1 " + point(1, 7, "6 5 28"))))
+        drawn = Svg(draw.draw(1, problem, answers.read_line("1 " + point(1, 7, "6 5 28"))[1]))
         names = [f"row {number}" for number in range(7)] + ["(1, 7)"]
         places = {text.text: text for text in drawn.root.iter(f"{SPACE}text") if text.text in names}
         boxes = [(float(text.get("x")), float(text.get("y")), 3.3 * len(words)) for words, text in places.items()]
@@ -574,7 +646,7 @@ class Drawing(unittest.TestCase):
 
     def test_a_record_that_is_no_problem(self):
         for content, refusal in ((records.Raw(9, b"<&>"), 9), (records.Raw(1, b""), 10), (records.Tail(b"1"), 8)):
-            drawn = Svg(draw.draw(4, content, draw.read_answer(f"4 refused {refusal}")))
+            drawn = Svg(draw.draw(4, content, answers.read_line(f"4 refused {refusal}")[1]))
             self.assertIn("Record 4: not a problem", drawn.words())
             self.assertNotIn("feasible", drawn.by_id)
 
@@ -599,13 +671,13 @@ class Drawing(unittest.TestCase):
             self.assertEqual(sum(text.startswith("row ") for text in set(words)), 12 if count == 12 else 0)
 
     def test_every_record_of_the_stream(self):
-        stream, answers = stream_file("ROWRUN_RECORDS", "stdin"), stream_file("ROWRUN_ANSWERS", "stdout")
-        if stream is None or answers is None:
+        stream, printed = stream_file("ROWRUN_RECORDS", "stdin"), stream_file("ROWRUN_ANSWERS", "stdout")
+        if stream is None or printed is None:
             self.skipTest("there is no crates/rowrun/stdin with stdout, and the environment names no files")
-        lines = answers.read_bytes()
+        lines = printed.read_bytes()
         for number, content in enumerate(records.read_records(stream.read_bytes()), 1):
             with self.subTest(record=number):
-                answer = draw.find_answer(lines, "answers", number)
+                answer = answers.find_answer(lines, "answers", number)
                 drawn = Svg(draw.draw(number, content, answer))
                 marks = {"answer", "far-answer"} & set(drawn.by_id)
                 self.assertEqual(len(marks), answer.kind in ("point", "level", "across"))
@@ -619,6 +691,270 @@ class Drawing(unittest.TestCase):
         self.assertEqual([number for number, value in enumerate(excess) if value == 0], [5, 6])
         # Row 5 holds y down to the left of it, row 6 to the right.
         self.assertTrue(rows[5][0] < 0 < rows[6][0] and min(rows[5][1], rows[6][1]) > 0)
+
+
+class Words(unittest.TestCase):
+    def test_each_kind_of_line(self):
+        for line, wanted in [
+            ("point 3FF0000000000000 401C000000000000 6 5 28", "point x = 1, y = 7; active rows 6 and 5; 28 readings"),
+            (point(1, -2.5, "1 - 23"), "point x = 1, y = -2.5; first active row 1, no second; 23 readings"),
+            (point(1, -2.5, "- 1 23"), "point x = 1, y = -2.5; no first active row, second 1; 23 readings"),
+            (point(-0.0, math.inf), "point x = -0, y = infinity; no active rows; 7 readings"),
+            (point(-math.inf, 0.0), "point x = -infinity, y = 0; no active rows; 7 readings"),
+            (f"level {hexed(3)} - - 1", "level y = 3, x is open; no active rows; 1 reading"),
+            (f"across {hexed(-1e24)} 2 - 4", "across x = -1e24, y is open; first active row 2, no second; 4 readings"),
+            ("nothing - - 0", "nothing, neither x nor y; no active rows; 0 readings"),
+            ("refused 9", "refused 9: the kind of the record is not 1"),
+            ("refused 11", "refused 11: no meaning is known for this number"),
+        ]:
+            self.assertEqual(answers.say_answer(answers.read_line(f"1 {line}")[1]), wanted)
+
+    def test_numbers_keep_every_bit(self):
+        for number, wanted in [(0.1, "0.1"), (1e6, "1000000"), (1e16, "1e16"), (5e-324, "5e-324"), (-1e-7, "-1e-7"), (1 + 2**-52, "1.0000000000000002")]:
+            self.assertEqual(answers.exact(number), wanted)
+        source = random.Random(4)
+        for _ in range(2000):
+            number = struct.unpack("<d", source.getrandbits(64).to_bytes(8, "little"))[0]
+            if math.isfinite(number):
+                self.assertEqual(float(answers.exact(number)), number)
+
+    def test_every_refusal_has_its_own_meaning(self):
+        self.assertEqual(sorted(answers.REFUSALS), list(range(1, 11)))
+        self.assertEqual(len(set(answers.REFUSALS.values())), 10)
+
+    def test_whole_outputs(self):
+        self.assertEqual(answers.read_all(b"end 0\n", 0), [])
+        said = answers.read_all(SAMPLE_ANSWERS, 2)
+        self.assertEqual([(line[:7], answer.y) for line, answer in said], [("1 point", 1.0), ("2 point", 2.0)])
+
+    def test_outputs_with_something_missing(self):
+        first = "1 nothing - - 0"
+        for printed, count, wanted in [
+            (b"", 0, "the line 'end' is missing, the last one is ''"),
+            (b"end 0", 0, "the line 'end' is missing, the last one is 'end 0'"),
+            (b"1 nothing - - 0\n", 1, f"the line 'end' is missing, the last one is '{first}'"),
+            (b"1 nothing - - 0\nend", 1, "the line 'end' is missing, the last one is 'end'"),
+            (b"end 0\n", 1, "0 lines and then 'end 0', where the records are 1"),
+            (b"1 nothing - - 0\nend 2\n", 1, "1 lines and then 'end 2', where the records are 1"),
+            (b"1 nothing - - 0\nend 1\n", 2, "1 lines and then 'end 1', where the records are 2"),
+            (b"2 nothing - - 0\nend 1\n", 1, "line 1 is about record 2"),
+            (b"1 nothing - -\nend 1\n", 1, "not a line of rowrun: '1 nothing - -'"),
+            (b"1 nothing - - 0\r\nend 1\n", 1, "not a line of rowrun: '1 nothing - - 0\r'"),
+            (b"1 \xff\nend 1\n", 1, "not a line of rowrun: '1 \\xff'"),
+            (b"1 level 7FF8000000000000 - - 1\nend 1\n", 1, "a coordinate is NaN"),
+        ]:
+            with self.subTest(printed=printed), self.assertRaises(ValueError) as caught:
+                answers.read_all(printed, count)
+            self.assertEqual(str(caught.exception), wanted)
+
+
+EXAMPLE_LINE = "1 point 3FF0000000000000 401C000000000000 6 5 28"
+
+
+class Answering(unittest.TestCase):
+    """tools/answer in a repository of its own, with scripts in place of rt and rowrun."""
+
+    def setUp(self):
+        directory = tempfile.TemporaryDirectory()
+        self.addCleanup(directory.cleanup)
+        self.root = pathlib.Path(directory.name)
+        shutil.copytree(HERE, self.root / "tools", ignore=shutil.ignore_patterns("__pycache__"))
+        self.rowrun = self.root / "target" / "bin" / "rowrun"
+        self.picture = self.root / "picture.svg"
+        self.problem = self.root / "tools" / "example.txt"
+        # On another processor than x86-64 rowrun is run by the kit's emulator, for which a script stands in as well.
+        kit = self.root / "kit" / "on" / os.uname().machine / "toolchain"
+        self.script(kit / "bin" / "qemu-x86_64", 'shift 3\nexec "$@"')
+        self.system = os.pathsep.join(["/usr/bin", "/bin"])
+        self.path = os.pathsep.join([str(self.root / "bin"), self.system])
+        self.prints(f"{EXAMPLE_LINE}\nend 1")
+        self.script(self.root / "bin" / "rt", "echo the noise of rt; echo the errors of rt >&2")
+
+    def script(self, path, words):
+        path.parent.mkdir(parents=True, exist_ok=True)
+        path.write_text(f"#!/bin/sh\n{words}\n")
+        path.chmod(0o755)
+
+    def prints(self, words, more=""):
+        """Has the stand-in of rowrun read everything and print this."""
+        self.script(self.rowrun, f"cat >/dev/null\ncat <<'END'\n{words}\nEND\n{more}")
+
+    def text(self, content):
+        path = self.root / "problem.txt"
+        path.write_text(content)
+        return path
+
+    def answer(self, *arguments, path=None, **streams):
+        environment = dict(os.environ, PATH=path or self.path, RATTLE_HOME=str(self.root / "kit"))
+        words = [sys.executable, str(self.root / "tools" / "answer"), *map(str, arguments)]
+        streams = {"stdin": subprocess.DEVNULL, "stdout": subprocess.PIPE, **streams}
+        done = subprocess.run(words, stderr=subprocess.PIPE, env=environment, cwd="/", **streams)
+        return done.returncode, (done.stdout or b"").decode(), done.stderr.decode()
+
+    def test_the_problem_its_line_and_the_words(self):
+        status, said, wrong = self.answer(self.problem, self.picture)
+        words = "  point x = 1, y = 7; active rows 6 and 5; 28 readings"
+        self.assertEqual(said, f"{self.problem.read_text()}\n{EXAMPLE_LINE}\n{words}\nend 1\ndrawn in {self.picture}\n")
+        self.assertEqual((status, wrong), (0, ""))
+        self.assertIn("answer", Svg(self.picture.read_text()).by_id)
+
+    def test_every_line_has_its_words(self):
+        self.prints(SAMPLE_ANSWERS.decode().rstrip())
+        status, said, _ = self.answer(self.root / "tools" / "sample.txt")
+        self.assertEqual((status, said.splitlines()[-1]), (0, "end 2"))
+        self.assertEqual(said.splitlines()[-4], "  point x = 1, y = 1; active rows 0 and 1; 7 readings")
+        self.assertEqual(said.splitlines()[-2], "  point x = 0, y = 2; first active row 1, no second; 23 readings")
+
+    def test_a_text_that_does_not_pack(self):
+        self.prints("end 0")
+        problem = self.text("lp\n1 2\n")
+        message = f"{problem}:2: a row is three numbers a b c, here stand 2\n"
+        self.assertEqual(self.answer(problem), (2, "", message))
+
+    def test_a_missing_problem(self):
+        self.assertEqual(self.answer(self.root / "none"), (2, "", f"{self.root / 'none'}: No such file or directory\n"))
+
+    def test_a_text_without_record(self):
+        self.prints("end 0")
+        problem = self.text("# nothing\n")
+        self.assertEqual(self.answer(problem), (0, "# nothing\n\nend 0\n", f"{problem}: it holds no record\n"))
+
+    def test_standard_input(self):
+        with open(self.problem, "rb") as given:
+            status, said, _ = self.answer("-", stdin=given)
+        self.assertEqual((status, said.splitlines()[-1]), (0, "end 1"))
+
+    def test_a_picture_that_cannot_be_drawn_stays(self):
+        self.picture.write_text("an older picture")
+        self.prints("1 nothing 7 - 0\nend 1")  # there is no row 7
+        status, said, wrong = self.answer(self.problem, self.picture)
+        self.assertEqual((status, said.splitlines()[-1]), (1, "end 1"))
+        self.assertEqual(wrong, f"{self.picture} is not drawn: the answer names a row that record 1 does not have\n")
+        self.assertEqual(self.picture.read_text(), "an older picture")
+        self.assertFalse(list(self.root.glob("picture.svg?*")))
+
+    def test_a_picture_that_nothing_is_drawn_for_stays(self):
+        self.picture.write_text("an older picture")
+        self.prints("end 0")
+        status, _, wrong = self.answer(self.text(""), self.picture)
+        self.assertEqual((status, self.picture.read_text()), (1, "an older picture"))
+        self.assertIn(f"{self.picture} is not drawn: there is no record to draw\n", wrong)
+
+    def test_a_picture_that_cannot_be_written(self):
+        for place, why in [(self.root / "no" / "folder", "No such file or directory"), (self.root, "Is a directory")]:
+            status, said, wrong = self.answer(self.problem, place)
+            self.assertEqual((status, said.splitlines()[-1], wrong), (1, "end 1", f"{place} is not drawn: {why}\n"))
+
+    def test_a_picture_keeps_its_link_and_its_mode(self):
+        self.picture.write_text("an older picture")
+        self.picture.chmod(0o640)
+        link = self.root / "link.svg"
+        link.symlink_to(self.picture)
+        self.assertEqual(self.answer(self.problem, link)[0], 0)
+        self.assertTrue(link.is_symlink() and self.picture.read_text().startswith("<?xml"))
+        self.assertEqual(stat.S_IMODE(self.picture.stat().st_mode), 0o640)
+
+    def test_a_picture_into_a_pipe(self):
+        status, said, _ = self.answer(self.problem, "/dev/stdout")
+        self.assertEqual(status, 0)
+        self.assertIn("</svg>", said)
+        self.assertTrue(stat.S_ISLNK(os.lstat("/dev/stdout").st_mode))
+
+    def test_the_problem_is_not_drawn_over(self):
+        problem = self.text("lp\n1 1 2\n")
+        self.assertEqual(self.answer(problem, problem), (1, "", f"{problem} is the problem itself, and no picture is drawn over it\n"))
+        self.assertEqual(problem.read_text(), "lp\n1 1 2\n")
+
+    def test_rt_decides_whether_the_program_is_old(self):
+        newer = self.root / "newer"
+        self.script(newer, "cat >/dev/null\necho 1 nothing - - 3\necho end 1")
+        self.script(self.root / "bin" / "rt", f'echo "$PWD $*" >"{self.root}/asked"; cp "{newer}" target/bin/rowrun; echo noise; echo noise >&2')
+        status, said, wrong = self.answer(self.problem)
+        self.assertEqual((status, said.splitlines()[-3], wrong), (0, "1 nothing - - 3", ""))
+        self.assertNotIn("noise", said)
+        self.assertEqual((self.root / "asked").read_text(), f"{self.root.resolve()} check rowrun\n")
+
+    def test_a_program_that_is_not_proved_is_not_used(self):
+        self.script(self.root / "bin" / "rt", "echo rt: rowrun NOT PROVED; exit 3")
+        status, said, wrong = self.answer(self.problem, self.picture)
+        self.assertEqual((status, said), (1, ""))
+        self.assertEqual(wrong, "rt: rowrun NOT PROVED\nrt check rowrun ended with status 3, and rowrun is not used\n")
+        self.assertFalse(self.picture.exists())
+
+    def test_a_program_that_went_missing_is_built_again(self):
+        self.rowrun.rename(self.root / "kept")
+        stamp = self.root / "target" / "stamp" / "rowrun"
+        stamp.parent.mkdir()
+        stamp.write_text("unchanged")
+        self.script(self.root / "bin" / "rt", f'[ -f target/stamp/rowrun ] || cp "{self.root}/kept" target/bin/rowrun')
+        self.assertEqual(self.answer(self.problem)[0], 0)
+
+    def test_rt_that_builds_nothing(self):
+        self.rowrun.unlink()
+        self.script(self.root / "bin" / "rt", "echo ok")
+        self.assertEqual(self.answer(self.problem), (1, "", "ok\nrt check rowrun left no target/bin/rowrun\n"))
+
+    def test_without_rt(self):
+        if shutil.which("rt", path=self.system):
+            self.skipTest("rt stands among the commands of the system")
+        status, said, wrong = self.answer(self.problem, path=self.system)
+        self.assertEqual((status, said.splitlines()[-1]), (0, "end 1"))
+        self.assertEqual(wrong, "there is no rt on PATH: target/bin/rowrun is used as it stands, and may be older than its sources\n")
+        self.rowrun.unlink()
+        status, said, wrong = self.answer(self.problem, path=self.system)
+        message = "there is no target/bin/rowrun, and no rt on PATH to prove and build it: the Rattle kit has it\n"
+        self.assertEqual((status, said, wrong), (1, "", message))
+
+    def test_whoever_waits_is_told_why(self):
+        place = self.root / "tools" / "answer"
+        place.write_text(place.read_text().replace("\nSOON = 5", "\nSOON = 0.1"))
+        self.script(self.root / "bin" / "rt", "sleep 0.5")
+        status, said, wrong = self.answer(self.problem)
+        self.assertEqual((status, said.splitlines()[-1]), (0, "end 1"))
+        self.assertEqual(wrong, "rt is proving and building rowrun, which may take some minutes\n")
+
+    def test_a_missing_end(self):
+        self.prints(EXAMPLE_LINE)
+        status, said, wrong = self.answer(self.problem, self.picture)
+        self.assertEqual((status, said), (1, ""))
+        self.assertEqual(wrong, f"rowrun printed something wrong: the line 'end' is missing, the last one is '{EXAMPLE_LINE}'\n")
+        self.assertFalse(self.picture.exists())
+
+    def test_lines_for_other_records(self):
+        self.prints("end 0")
+        status, said, wrong = self.answer(self.problem)
+        self.assertEqual((status, said), (1, ""))
+        self.assertEqual(wrong, "rowrun printed something wrong: 0 lines and then 'end 0', where the records are 1\n")
+
+    def test_records_that_stand_in_a_tail(self):
+        self.prints("1 refused 9\n2 refused 9\nend 2")
+        problem = self.text("tail " + "000000000000" * 2)
+        self.assertEqual(self.answer(problem)[0], 0)
+
+    def test_a_program_that_fails(self):
+        self.prints(f"{EXAMPLE_LINE}\nend 1", "exit 7")
+        self.assertEqual(self.answer(self.problem), (1, "", "rowrun ended with status 7\n"))
+        self.rowrun.write_text("#!/no/such/interpreter\n")
+        status, said, wrong = self.answer(self.problem)
+        self.assertEqual((status, said), (1, ""))
+        self.assertNotEqual(wrong, "")
+
+    def test_a_program_that_reads_nothing(self):
+        self.script(self.rowrun, f"exec <&-\necho {EXAMPLE_LINE}\necho end 1")
+        problem = self.text("lp\n" + "1 2 3\n" * 20000)  # more than a pipe holds
+        self.assertEqual(self.answer(problem)[0], 0)
+
+    def test_closed_output(self):
+        reader, writer = os.pipe()
+        os.close(reader)
+        status, _, wrong = self.answer(self.problem, self.picture, stdout=writer)
+        os.close(writer)
+        self.assertEqual((status, wrong), (1, ""))
+        self.assertTrue(self.picture.exists())
+
+    def test_output_that_cannot_be_written(self):
+        with open("/dev/full", "wb") as full:
+            self.assertEqual(self.answer(self.problem, stdout=full), (1, "", "standard output: No space left on device\n"))
 
 
 class Geometry(unittest.TestCase):
