@@ -1,4 +1,4 @@
-"""The lines that rowrun prints: what each says, as values and in words."""
+"""The lines that rowrun prints: what each says, as values and in words. Needs Python 3.8."""
 
 import re
 from dataclasses import dataclass

@@ -1,8 +1,14 @@
-"""What every command here does alike: reads all of its input, writes all of its output, says what failed."""
+"""What every command here does alike: reads all of its input, writes all of its output, says what failed. Needs Python 3.8."""
 
-import os
-import select
 import sys
+
+NEEDED = (3, 8)
+if sys.version_info < NEEDED:  # tested before anything is imported that an older Python does not have
+    found = (sys.argv[0].rpartition("/")[2],) + NEEDED + tuple(sys.version_info[:2])
+    sys.exit("%s needs Python %d.%d or newer, and this is Python %d.%d" % found)
+
+import os  # noqa: E402
+import select  # noqa: E402
 
 PORTION = 65536  # bytes asked for at once
 INTERRUPTED = 130  # the status of a command that is stopped by hand, as a shell gives it

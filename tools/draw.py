@@ -1,5 +1,8 @@
 #!/usr/bin/env python3
+# Needs Python 3.8 or newer, and nothing else.
 """Draws one problem and the answer that rowrun gave to it as an SVG picture."""
+
+import command  # first: it says so where Python is too old
 
 import argparse
 import math
@@ -8,7 +11,6 @@ import textwrap
 from xml.sax.saxutils import escape
 
 import answers
-import command
 import plane
 import records
 

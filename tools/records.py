@@ -1,12 +1,13 @@
 #!/usr/bin/env python3
+# Needs Python 3.8 or newer, and nothing else.
 """Turns text into the records that rowrun reads, and records back into text, without losing a bit."""
+
+import command  # first: it says so where Python is too old
 
 import argparse
 import codecs
 import struct
 from dataclasses import dataclass, field
-
-import command
 
 HEADER = struct.Struct("<IH")  # length of the body, kind of the record
 FRONT = struct.Struct("<6QB")  # tolerance, scale, x0, y0 as bits; skip, allowance; normalise
@@ -270,7 +271,8 @@ def parse_text(data, name, before=()):
     """The records of a text given as bytes; a tail among those before it leaves no room for more."""
     records = list(before[-1:]) if before and isinstance(before[-1], Tail) else []
     kept_from = len(records)
-    for number, line in enumerate(data.removeprefix(codecs.BOM_UTF8).split(b"\n"), 1):
+    text = data[len(codecs.BOM_UTF8) :] if data.startswith(codecs.BOM_UTF8) else data
+    for number, line in enumerate(text.split(b"\n"), 1):
         try:
             read_line(line.decode("utf-8").partition("#")[0], records)
         except UnicodeDecodeError:

@@ -1,8 +1,10 @@
 """Tests of the tools: python3 -m unittest discover tools
 
-They need neither rt nor rowrun, for which scripts stand in. The round trip of a whole stream takes
+They need Python 3.8 and neither rt nor rowrun, for which scripts stand in. The round trip of a whole stream takes
 crates/rowrun/stdin and its stdout, or the files that the environment variables ROWRUN_RECORDS and ROWRUN_ANSWERS name.
 """
+
+import command  # first: it says so where Python is too old
 
 import math
 import os
@@ -21,7 +23,6 @@ import unittest
 import xml.etree.ElementTree
 
 import answers
-import command
 import draw
 import plane
 import records
@@ -181,7 +182,8 @@ class RoundTrips(unittest.TestCase):
         for _ in range(300):
             data = b""
             for _ in range(source.randrange(4)):
-                content = source.choice([body((1, 2, 3)), source.randbytes(source.choice([0, 48, 49, 50, 73]))])
+                size = source.choice([0, 48, 49, 50, 73])
+                content = source.choice([body((1, 2, 3)), source.getrandbits(8 * size + 1).to_bytes(size + 1, "little")[:size]])
                 data += record(source.choice([0, 1, 1, 2, 65535]), content)
             self.check(data[: len(data) - source.choice([0, 0, 1, 30])])
 
@@ -691,6 +693,22 @@ class Drawing(unittest.TestCase):
         self.assertEqual([number for number, value in enumerate(excess) if value == 0], [5, 6])
         # Row 5 holds y down to the left of it, row 6 to the right.
         self.assertTrue(rows[5][0] < 0 < rows[6][0] and min(rows[5][1], rows[6][1]) > 0)
+
+
+class Versions(unittest.TestCase):
+    TOOLS = ["answer", "draw.py", "records.py", "test_tools.py"]
+
+    def test_an_older_python_is_told_what_is_needed(self):
+        for name in self.TOOLS:
+            older = f"import runpy, sys; sys.version_info = (3, 7, 17); sys.argv = [{name!r}]; runpy.run_path({name!r}, run_name='__main__')"
+            done = subprocess.run([sys.executable, "-c", older], cwd=HERE, capture_output=True)
+            message = f"{name} needs Python 3.8 or newer, and this is Python 3.7\n"
+            self.assertEqual((done.returncode, done.stdout, done.stderr.decode()), (1, b"", message))
+
+    def test_each_head_says_what_is_needed(self):
+        for path in HERE.iterdir():
+            if path.suffix == ".py" or path.name in self.TOOLS:
+                self.assertIn("Python 3.8", path.read_text().partition("import")[0], path.name)
 
 
 class Words(unittest.TestCase):
