@@ -8,10 +8,10 @@ import records
 # What each refusal means.
 REFUSALS = {
     1: "the floats that were lent do not come out even",
-    2: "there are more rows than a record may have, 2,048, or than an entry takes, 4,096",
+    2: "the record has more than 2,048 rows",
     3: "the answer takes more readings than the allowance",
     4: "all seven solves passed without an answer",
-    5: "the two boundaries have no point in common that is certain: their determinant is not finite or within its error bound",
+    5: "the determinant is not finite or within its error bound",
     6: "recovery found no point",
     7: "the prefix is longer than the rows",
     8: "the end of the input cuts the record",

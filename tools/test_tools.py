@@ -6,6 +6,8 @@ crates/rowrun/stdin and its stdout, or the files that the environment variables 
 
 import command  # first: it says so where Python is too old
 
+import importlib.machinery
+import importlib.util
 import math
 import os
 import pathlib
@@ -28,8 +30,21 @@ import plane
 import records
 
 HERE = pathlib.Path(__file__).resolve().parent
-ROWRUN = HERE.parent / "crates" / "rowrun"
+ROOT = HERE.parent
+ROWRUN = ROOT / "crates" / "rowrun"
 SPACE = "{http://www.w3.org/2000/svg}"
+EXAMPLE_LINE = "1 point 3FF0000000000000 401C000000000000 6 5 28"  # what rowrun answers to example.txt
+
+
+def load(name):
+    """A command of this directory whose file has no ending, as a module."""
+    loader = importlib.machinery.SourceFileLoader(name, str(HERE / name))
+    module = importlib.util.module_from_spec(importlib.util.spec_from_loader(name, loader))
+    loader.exec_module(module)
+    return module
+
+
+answer = load("answer")
 
 
 def stream_file(variable, name):
@@ -345,7 +360,7 @@ class Commands(unittest.TestCase):
         by_text = run("draw.py", HERE / "sample.txt", answers, "--record", 2)
         by_records = run("draw.py", stream, answers, "--record", 2)
         self.assertEqual((by_text.returncode, by_text.stderr), (0, b""))
-        self.assertIn(b"Record 2: 2 rows", by_text.stdout)
+        self.assertIn(b"Record 2: the highest y that meets 2 rows", by_text.stdout)
         self.assertEqual(by_records.stdout, by_text.stdout)
         self.assertEqual(run("draw.py", stream, answers, "--record", 2, "--as", "text").returncode, 2)
         piped = run("draw.py", stream, "-", "--record", 2, given=SAMPLE_ANSWERS)
@@ -439,7 +454,8 @@ class Drawing(unittest.TestCase):
         self.assertEqual(mark.tag, SPACE + "circle")
         self.assertAlmostEqual(drawn.plane("x", float(mark.get("cx"))), 1, delta=0.01)
         self.assertAlmostEqual(drawn.plane("y", float(mark.get("cy"))), 1, delta=0.01)
-        self.assertEqual(drawn.root.get("viewBox"), "0 0 640 480")
+        width, height = drawn.root.get("width"), drawn.root.get("height")
+        self.assertEqual((width, drawn.root.get("viewBox")), ("640", f"0 0 {width} {height}"))
 
     def test_s3_boundaries_are_the_rows(self):
         drawn = picture(self.S3, point(1, 1, "0 1 7"))
@@ -481,7 +497,7 @@ class Drawing(unittest.TestCase):
 
     def test_active_rows_as_inequalities(self):
         drawn = picture([(-1, 0.5, 2), (0, -3, 1e24)], point(0, 0, "0 1 7"))
-        self.assertEqual(drawn.captions[1:3], ["row 0: -x + 0.5 y <= 2", "row 1: -3 y <= 1e24"])
+        self.assertEqual(drawn.captions[1:3], ["row 0: -x + 0.5 y \u2264 2", "row 1: -3 y \u2264 1e24"])
 
     def test_level_is_horizontal_and_across_vertical(self):
         (x1, y1), (x2, y2) = picture([(0, 2, 6)], f"level {hexed(3)} - - 1").ends("answer")
@@ -523,8 +539,8 @@ class Drawing(unittest.TestCase):
     def test_a_long_answer_is_broken_into_lines(self):
         line = point(-1.23456e-138, -6.54321e-201, f"- 1 {2**64 - 1}")
         captions = picture(self.S3, line).captions
-        self.assertLessEqual(max(map(len, captions)), 84)
-        self.assertLessEqual(len(captions[0]), 72)
+        self.assertLessEqual(max(map(len, captions)), draw.LINE_LETTERS)
+        self.assertLessEqual(len(captions[0]), draw.BOLD_LETTERS)
         self.assertIn(str(2**64 - 1), captions[1])
 
     def test_names_stand_on_the_excluded_side(self):
@@ -538,10 +554,11 @@ class Drawing(unittest.TestCase):
         drawn = Svg(draw.draw(1, problem, answers.read_line("1 " + point(1, 7, "6 5 28"))[1]))
         names = [f"row {number}" for number in range(7)] + ["(1, 7)"]
         places = {text.text: text for text in drawn.root.iter(f"{SPACE}text") if text.text in names}
-        boxes = [(float(text.get("x")), float(text.get("y")), 3.3 * len(words)) for words, text in places.items()]
+        boxes = [(float(text.get("x")), float(text.get("y")), 3.5 * len(words)) for words, text in places.items()]
         self.assertEqual(len(boxes), 8)
+        left, top, right, bottom = draw.BOX
         for place, (x, y, half) in enumerate(boxes):
-            self.assertTrue(78 < x - half and x + half < 624 and 34 < y - 10 and y < 338)
+            self.assertTrue(left < x - half and x + half < right and top < y - 11 and y < bottom)
             for other_x, other_y, other_half in boxes[:place]:
                 self.assertTrue(abs(x - other_x) > half + other_half or abs(y - other_y) > 12)
 
@@ -558,7 +575,7 @@ class Drawing(unittest.TestCase):
 
     def test_an_active_row_without_boundary(self):
         drawn = picture([(math.nan, 1, 2), (1, 0, 1)], point(1, 2, "0 1 7"))
-        self.assertIn("row 0: nan x + 1 y <= 2", drawn.captions)
+        self.assertIn("row 0: nan x + 1 y \u2264 2", drawn.captions)
 
     def test_only_rows_without_boundary(self):
         drawn = picture([(math.nan, 1, 2), (0, 0, 1)] * 200, point(5, 7))
@@ -598,7 +615,8 @@ class Drawing(unittest.TestCase):
     def test_an_answer_a_little_off_the_rows_is_in_view(self):
         for x, y in [(0.5, 5.0), (4.0, -3.0)]:
             mark = picture(self.S5, point(x, y)).by_id["answer"]
-            self.assertTrue(78 < float(mark.get("cx")) < 624 and 34 < float(mark.get("cy")) < 338)
+            left, top, right, bottom = draw.BOX
+            self.assertTrue(left < float(mark.get("cx")) < right and top < float(mark.get("cy")) < bottom)
 
     def test_few_far_crossings_without_feasible_part(self):
         rows = [(0, 1, 1), (0, -1, -2), (1, 0, 1), (-1, 0, 0), (1, 1e-5, 1.5)]
@@ -631,6 +649,19 @@ class Drawing(unittest.TestCase):
             for element in drawn.root.iter():
                 for name in ("x", "y", "x1", "x2", "y1", "y2", "cx", "cy"):
                     self.assertTrue(-1 <= float(element.get(name, 0)) <= 641, numbers)
+
+    def test_no_text_is_clipped(self):
+        shares = {None: (0, 1), "middle": (0.5, 0.5), "end": (1, 0)}  # of a text, left and right of its place
+        long = point(-1.23456e-138, -6.54321e-201, f"- 1 {2**64 - 1}")
+        for rows, line in [(self.S3, point(1, 1, "0 1 7")), ([(0, 0, 1)] * 99 + [(1, 1, math.nan), (1e-300, 1, -1e300)], long), ([], "refused 10")]:
+            drawn = picture(rows, line)
+            width, height = float(drawn.root.get("width")), float(drawn.root.get("height"))
+            size = {element: above.get("font-size") for above in drawn.root.iter() for element in above}
+            for text in drawn.root.iter(f"{SPACE}text"):
+                letter = 0.6 * float(text.get("font-size") or size[text])
+                before, after = (share * letter * len(text.text) for share in shares[text.get("text-anchor")])
+                self.assertTrue(0 <= float(text.get("x")) - before and float(text.get("x")) + after <= width, text.text)
+                self.assertTrue(2 * letter <= float(text.get("y")) <= height - letter, text.text)
 
     def test_no_rows(self):
         drawn = picture([], "nothing - - 0")
@@ -683,6 +714,40 @@ class Drawing(unittest.TestCase):
                 drawn = Svg(draw.draw(number, content, answer))
                 marks = {"answer", "far-answer"} & set(drawn.by_id)
                 self.assertEqual(len(marks), answer.kind in ("point", "level", "across"))
+
+
+class Example(unittest.TestCase):
+    """tools/example.txt, its answer and its picture, docs/example.svg."""
+
+    def setUp(self):
+        self.text = (HERE / "example.txt").read_bytes()
+
+    def drawn(self):
+        problem = draw.find_record(self.text, "example.txt", 1, "text")
+        return draw.draw(1, problem, answers.find_answer(EXAMPLE_LINE.encode(), "answers", 1))
+
+    def test_the_picture_is_what_is_drawn_today(self):
+        kept = (ROOT / "docs" / "example.svg").read_text("utf-8")
+        self.assertEqual(kept, self.drawn(), "draw it again: tools/answer tools/example.txt docs/example.svg")
+
+    def test_the_picture_shows_everything(self):
+        drawn = Svg(self.drawn())
+        self.assertEqual(drawn.by_id["answer"].tag, SPACE + "circle")
+        self.assertIn("feasible", drawn.by_id)
+        self.assertEqual([element.get("id") for element in drawn.of_class("active")], ["row-5", "row-6"])
+        self.assertEqual(len(drawn.of_class("row")), 7)
+        self.assertEqual(drawn.captions[0], "point x = 1, y = 7; active rows 6 and 5; 28 readings")
+        self.assertIn("the points that meet every row", drawn.captions)
+
+    def test_rowrun_answers_so(self):
+        if not os.access(answer.PROGRAM, os.X_OK):
+            self.skipTest("there is no target/bin/rowrun")
+        try:
+            words = answer.way_to_run()
+        except answer.Failure as wrong:
+            self.skipTest(str(wrong))
+        done = subprocess.run(words, input=pack(self.text.decode()), stdout=subprocess.PIPE)
+        self.assertEqual((done.returncode, done.stdout.decode()), (0, f"{EXAMPLE_LINE}\nend 1\n"))
 
     def test_the_example_is_feasible_with_two_active_rows(self):
         problem = records.parse_text((HERE / "example.txt").read_bytes(), "example")[0]
@@ -764,9 +829,6 @@ class Words(unittest.TestCase):
             with self.subTest(printed=printed), self.assertRaises(ValueError) as caught:
                 answers.read_all(printed, count)
             self.assertEqual(str(caught.exception), wanted)
-
-
-EXAMPLE_LINE = "1 point 3FF0000000000000 401C000000000000 6 5 28"
 
 
 class Answering(unittest.TestCase):
