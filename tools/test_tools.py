@@ -40,11 +40,13 @@ def load(name):
     """A command of this directory whose file has no ending, as a module."""
     loader = importlib.machinery.SourceFileLoader(name, str(HERE / name))
     module = importlib.util.module_from_spec(importlib.util.spec_from_loader(name, loader))
+    sys.modules[name] = module  # where its classes look for it
     loader.exec_module(module)
     return module
 
 
 answer = load("answer")
+house = load("house")
 
 
 def stream_file(variable, name):
@@ -761,7 +763,7 @@ class Example(unittest.TestCase):
 
 
 class Versions(unittest.TestCase):
-    TOOLS = ["answer", "draw.py", "records.py", "test_tools.py"]
+    TOOLS = ["answer", "draw.py", "house", "records.py", "test_tools.py"]
 
     def test_an_older_python_is_told_what_is_needed(self):
         for name in self.TOOLS:
@@ -1035,6 +1037,364 @@ class Answering(unittest.TestCase):
     def test_output_that_cannot_be_written(self):
         with open("/dev/full", "wb") as full:
             self.assertEqual(self.answer(self.problem, stdout=full), (1, "", "standard output: No space left on device\n"))
+
+
+class House(unittest.TestCase):
+    """The rules of the repository, on a small one in which nothing breaks them."""
+
+    LAWS = """-- What adding does.
+use mathlib.Core.Path.{_≡_, refl, ap as by}
+use Rattle.base.specs.Sums.{_⊞_, twice, if_then_else_}
+use Rattle.base.proofs.Tools as tools
+
+pub zero-left : (n : ℕ) → zero ⊞ n ≡ n
+zero-left zero = refl
+zero-left (suc n) = by suc (zero-left n)
+
+pub right {ℓ} : (n : ℕ) → if n then n else tools.step n ≡ twice n
+unfolding twice
+right n = zero-left n
+"""
+    SUMS = """-- Sums. Assumes nothing.
+use Prim.Native.Nat.{ℕ, _+_}
+
+unfoldable pub _⊞_ : ℕ → ℕ → ℕ
+_⊞_ a b = a + b
+"""
+    CODE = """// Adds two numbers.
+ghost use mathlib.Core.Path.{_≡_};
+use base::Number;
+
+pub fn add(a: u64, b: u64) -> u64
+    ensures { λ r. ⌜ r ≡ a ⌝ }
+{
+    a + b
+}
+"""
+    EDIT = "file: src/lib.rt\nold:     a + b\nnew:     a - b\n"
+    PROMISED = """# Promises
+
+| Promise | Kept by | Guarded by |
+|---|---|---|
+| It adds, and/or stops | base/Laws: `right`; `base/proofs/Laws.antt` | base/minus |
+"""
+
+    def setUp(self):
+        directory = tempfile.TemporaryDirectory()
+        self.addCleanup(directory.cleanup)
+        self.root = pathlib.Path(directory.name)
+        self.put("crates/base/src/lib.rt", self.CODE)
+        self.put("crates/base/specs/Lib.antt", "pub mod Sums\n")
+        self.put("crates/base/specs/Sums.antt", self.SUMS)
+        self.put("crates/base/proofs/Lib.antt", "pub mod Laws\npub mod Tools\n")
+        self.put("crates/base/proofs/Laws.antt", self.LAWS)
+        self.put("crates/base/proofs/Tools.antt", "-- A step.\npub step : ℕ → ℕ\nstep n = n\n")
+        self.put("crates/base/must-fail/minus.edit", self.EDIT)
+        self.put("docs/PROMISES.md", self.PROMISED)
+
+    def put(self, name, text):
+        path = self.root / name
+        path.parent.mkdir(parents=True, exist_ok=True)
+        path.write_bytes(text if isinstance(text, bytes) else text.encode())
+
+    def change(self, name, old, new):
+        text = (self.root / name).read_text("utf-8")
+        self.assertIn(old, text)
+        self.put(name, text.replace(old, new))
+
+    def assert_found(self, *wanted):
+        self.assertEqual([str(found) for found in house.findings(self.root)], list(wanted))
+
+    def test_nothing_is_found(self):
+        self.assert_found()
+
+    def test_long_lines(self):
+        self.put("crates/base/specs/Sums.antt", self.SUMS + "-- " + "ℕ" * 157 + "\n")  # 160 characters in 474 bytes
+        self.assert_found()
+        self.put("crates/base/specs/Sums.antt", self.SUMS + "-- " + "ℕ" * 158 + "\n")
+        self.put("crates/base/notes.txt", "a" * 200)
+        for data in ("stdin", "stdout", "args", "data/deep/file", "must-fail/README"):
+            self.put(f"crates/base/{data}", "a" * 200)
+        self.assert_found(
+            "crates/base/notes.txt:1: 200 characters, and 160 are the most",
+            "crates/base/specs/Sums.antt:6: 161 characters, and 160 are the most",
+        )
+
+    def test_bytes_that_are_no_text(self):
+        self.put("crates/base/notes.txt", b"fine\n\xff\n")
+        self.assert_found("crates/base/notes.txt:2: not text in UTF-8")
+
+    def test_files_without_opening(self):
+        wanted = "does not open with a comment that says what it is for"
+        for name, text in [("src/lib.rt", self.CODE), ("specs/Sums.antt", self.SUMS)]:
+            for opening in ("", "--\n", "\n"):
+                self.put(f"crates/base/{name}", opening + text.partition("\n")[2])
+                self.assert_found(f"crates/base/{name}:1: {wanted}")
+            self.put(f"crates/base/{name}", text)
+        self.put("crates/base/src/lib.rt", "//! Adds.\n" + self.CODE.partition("\n")[2])
+        self.assert_found()
+
+    def test_a_list_of_modules_needs_no_opening(self):
+        self.put("crates/base/specs/Lib.antt", "pub mod Sums\n-- a remark\npub mod More\n")
+        self.assert_found()
+        self.put("crates/base/specs/Lib.antt", "pub mod Sums\n\npub one : ℕ\none = 1\n")
+        self.put("crates/base/specs/Other.antt", "pub mod Sums\n")
+        wanted = "does not open with a comment that says what it is for"
+        self.assert_found(f"crates/base/specs/Lib.antt:1: {wanted}", f"crates/base/specs/Other.antt:1: {wanted}")
+
+    def unused(self, use, body, language="antt"):
+        """The names that a file with this `use` line and this body brings in and does not use."""
+        source = house.Source(f"crates/base/specs/A.{language}", f"-- A.\n{use}\n\n{body}\n" if language == "antt" else f"// A.\n{use}\n{body}\n")
+        return [found.name for found in source.imports if not source.uses(found.name)]
+
+    def test_names_that_are_not_used(self):
+        for use, body, wanted in [
+            ("use M.{a, b}", "f = a", ["b"]),
+            ("use M.{a, b}", "f = a-b", ["a", "b"]),
+            ("use M.{a}", "f : A\nunfolding a\nf = refl", []),
+            ("use M.{a}", "f = b -- a", ["a"]),
+            ("use M.{a}", "{- a {- a -} a -} f = b", ["a"]),
+            ("use M.{a}", "-- {-\nf = a -- -}", []),
+            ("use M.{a}", 'f = "a"', ["a"]),
+            ("use M.{a}", "f = r .a", ["a"]),
+            ("use M.{a}", "f = r.a", ["a"]),
+            ("use M.{a}", "f = a.b", []),
+            ("use M.{a}", "f = λ x. a", []),
+            ("use M.{a}", "f (a, b) = x@a", []),
+            ("use M.{a as b}", "f = a", ["b"]),
+            ("use M.{a as b}", "f = b", []),
+            ("use M.{N.d}", "f = d", []),
+            ("use M.{N.d, N.e}", "f = d", ["e"]),
+            ("use M.{\n    a,\n    b}", "f = b", ["a"]),
+            ("use M.N", "f = N.a", []),
+            ("use M.N", "f = M.a", ["N"]),
+            ("use M.N as O", "f = O.a", []),
+            ("use M.N as O", "f = N.a", ["O"]),
+            ("use M.T.the-variants.{Left, Right}", "f Left = Right", []),
+            ("use M.T.the-variants as is", "f is.Left = b", []),
+            ("pub use M.{a}", "f = b", ["a"]),  # passed on, which the rule lets be
+        ]:
+            with self.subTest(use=use, body=body):
+                self.assertEqual(self.unused(use, body), wanted)
+
+    def test_operators_that_are_not_used(self):
+        for use, body, wanted in [
+            ("use M.{_≡_, _≤_}", "f : a ≡ b", ["_≤_"]),
+            ("use M.{_+_, _-_}", "f = map (_+ 1) (map (1 -_) xs)", []),
+            ("use M.{_+_, _-_}", "f = fold _+_ xs", ["_-_"]),
+            ("use M.{¬_}", "f : ¬ A", []),
+            ("use M.{if_then_else_}", "f = if a then b else c", []),
+            ("use M.{if_then_else_}", "f = if a then b", ["if_then_else_"]),
+            ("use M.{if_then_else_}", "f : A\nunfolding if_then_else_", []),
+            ("use M.{[], _∷_}", "f = 1 ∷ []", []),
+            ("use M.{[] as none, _∷_ as _then_}", "f = 1 then none", []),
+            ("use M.{[], _∷_}", "f = elim x [ a ↦ b | c ↦ d ]", ["[]", "_∷_"]),
+            ("use M.{∥_∥₁}", "f : ∥ A ∥₁", []),
+            ("use M.{_>>=_, _>>_}", "f = do\n  x ← m\n  n", []),
+            ("use M.{_>>=_, _>>_}", "f = m", ["_>>=_", "_>>_"]),
+            ("use M.{«in»}", "f = «in»", []),
+        ]:
+            with self.subTest(use=use, body=body):
+                self.assertEqual(self.unused(use, body), wanted)
+
+    def test_ghosts_that_are_not_used(self):
+        for use, body, wanted in [
+            ("ghost use M.{_≡_, length};", "ensures { λ r. ⌜ r ≡ 1 ⌝ }", ["length"]),
+            ("ghost use M as ghost;", "ensures { ⌜ ghost.a ⌝ }", []),
+            ("ghost use M.{a};", "// a", ["a"]),
+            ("ghost use M.{a};", "let q = b'\"'; a", []),
+            ("use m::Thing;", "f()", []),
+        ]:
+            with self.subTest(use=use, body=body):
+                self.assertEqual(self.unused(use, body, "rt"), wanted)
+
+    def test_an_unused_name_is_found_where_it_stands(self):
+        self.change("crates/base/proofs/Laws.antt", "{_≡_, refl,", "{_≡_,\n    sym, refl,")
+        self.change("crates/base/src/lib.rt", "{_≡_}", "{_≡_, true}")
+        self.assert_found(
+            "crates/base/proofs/Laws.antt:3: `sym` is brought in and not used", "crates/base/src/lib.rt:2: `true` is brought in and not used"
+        )
+        self.change("crates/base/proofs/Laws.antt", "use mathlib", "pub use mathlib")
+        self.assert_found("crates/base/src/lib.rt:2: `true` is brought in and not used")
+
+    def laws(self, text):
+        return [(law.name, law.line) for law in house.Source("crates/base/proofs/A.antt", text).laws()]
+
+    def test_which_names_are_laws(self):
+        text = """-- Laws.
+pub use M.{x}
+pub mod N
+pub a : A
+a = b
+
+hidden : A
+hidden = b
+
+abbrev pub b : A
+unfoldable pub c {ℓ} : A
+unfoldable abbrev pub _≼_ : A
+axiom pub d : A
+
+module _ (n : ℕ) where
+  pub e : A
+  e = b
+
+  module _ (m : ℕ) where
+    pub f : A
+
+pub record R (n : ℕ) : Type 0 where
+  pub g : A
+
+pub data D : Type 0 where
+  h : D
+
+module _ where
+  pub record S : Type 0 where
+    pub i : A
+
+  pub j : A
+pub ruleset k
+mutual
+  pub l : A
+pub m :
+    A → B
+"""
+        names = [("a", 4), ("b", 10), ("c", 11), ("_≼_", 12), ("d", 13), ("e", 16), ("f", 20), ("R", 22), ("D", 25), ("S", 29), ("j", 32), ("l", 35), ("m", 36)]
+        self.assertEqual(self.laws(text), names)
+
+    def test_laws_that_nobody_uses(self):
+        unused = "nothing uses `spare`, and docs/PROMISES.md does not name it"
+        for more in [
+            "pub spare : ℕ\nspare = 1\n",
+            "pub spare : ℕ → ℕ\nunfolding twice\nspare zero = zero\nspare (suc n) = spare n\n",
+            "pub spare : ℕ\nspare = 1\n\nother : ℕ\nother = r .spare -- spare\n",
+            "pub spare {ℓ} : ℕ\nspare = 1\n  where\n    help : ℕ\n    help = spare\n",
+        ]:
+            self.put("crates/base/proofs/Laws.antt", self.LAWS + "\n" + more)
+            self.assert_found(f"crates/base/proofs/Laws.antt:14: {unused}")
+
+    def test_laws_that_are_used(self):
+        spare = self.LAWS + "\nmodule _ (n : ℕ) where\n  abbrev pub spare : ℕ\n  spare = n\n"
+        for more in ["\nother : ℕ\nother = spare 1\n", "\n  other : ℕ\n  other = spare\n", "\nother : A\nunfolding spare\nother = refl\n"]:
+            self.put("crates/base/proofs/Laws.antt", spare + more)
+            self.assert_found()
+        self.put("crates/base/proofs/Laws.antt", spare)
+        for other in [
+            "use Rattle.base.proofs.Laws.{spare}\nf = spare",
+            "use Rattle.base.proofs.Laws.{spare as s}\nf = s",
+            "use Rattle.base.proofs.Laws as laws\nf = laws.spare",
+            "use Rattle.base.proofs\nf = proofs.Laws.spare",
+            "use Rattle.base.proofs as p\nuse p.Laws.{spare}\nf = spare",
+            "f = Rattle.base.proofs.Laws.spare",
+            "f = package.Rattle.base.proofs.Laws.spare",
+            "pub use Rattle.base.proofs.Laws.{spare}",
+        ]:
+            self.put("crates/over/specs/Over.antt", f"-- Over it.\n{other}\n")
+            self.assert_found()
+        self.put("crates/over/specs/Over.antt", "-- Over it.\n")
+        self.put("crates/base/proofs/add/Proof.antt", "-- `add`.\nuse Rattle.base.proofs.Laws.{spare}\nf = spare\n")
+        self.assert_found()
+        self.put("crates/base/proofs/add/Proof.antt", "-- `add`.\n")
+        self.put("crates/over/src/lib.rt", "// Over it.\nghost use Rattle.base.proofs.Laws.{spare};\n// ..\nensures { ⌜ spare ⌝ }\n")
+        self.assert_found()
+
+    def test_a_law_of_the_same_name_is_another(self):
+        self.put("crates/base/proofs/Laws.antt", self.LAWS + "\npub spare : ℕ\nspare = 1\n")
+        unused = "crates/base/proofs/Laws.antt:14: nothing uses `spare`, and docs/PROMISES.md does not name it"
+        for other in ["use Rattle.far.proofs.Laws.{spare}\nf = spare", "spare : ℕ\nspare = 1", "use Rattle.base.proofs.Tools as t\nf = t.spare"]:
+            self.put("crates/over/specs/Over.antt", f"-- Over it.\n{other}\n")
+            self.assert_found(unused)
+        # One that is brought in and not used has no user in that.
+        self.put("crates/over/specs/Over.antt", "-- Over it.\nuse Rattle.base.proofs.Laws.{spare}\n")
+        self.assert_found(unused, "crates/over/specs/Over.antt:2: `spare` is brought in and not used")
+
+    def test_laws_that_are_promised(self):
+        self.put("crates/base/proofs/Laws.antt", self.LAWS + "\npub spare : ℕ\nspare = 1\n")
+        unused = "crates/base/proofs/Laws.antt:14: nothing uses `spare`, and docs/PROMISES.md does not name it"
+        for promise, wanted in [
+            ("base/Laws: `spare`", []),
+            ("see `base/Laws.spare`", []),
+            ("`other`, `spare`", []),
+            ("base/Laws", []),
+            ("base/Laws; `other`", []),
+            ("`Laws.antt` of `base`", []),
+            ("spare", [unused]),
+            ("`spare-one`", [unused]),
+            ("base/Laws: `other`", [unused]),
+            ("base/Tools", [unused]),
+            ("`base/proofs/Laws.antt`", [unused]),
+        ]:
+            with self.subTest(promise=promise):
+                self.put("docs/PROMISES.md", f"{self.PROMISED}| More | {promise} | base/minus |\n")
+                self.assert_found(*wanted)
+
+    def test_edits_that_no_promise_names(self):
+        self.put("crates/base/must-fail/times.edit", self.EDIT)
+        missing = "crates/base/must-fail/times.edit:1: docs/PROMISES.md does not name base/times"
+        for promise, wanted in [
+            ("base/minus", [missing]),
+            ("base/timesless", [missing, "docs/PROMISES.md:6: base/timesless is no must-fail edit, and no file of definitions or proofs"]),
+            ("far/base/times", [missing]),
+            ("base/minus, base/times", []),
+            ("`base/times`", []),
+            ("as base/times.", []),
+        ]:
+            with self.subTest(promise=promise):
+                self.put("docs/PROMISES.md", f"{self.PROMISED}| More | | {promise} |\n")
+                self.assert_found(*wanted)
+        (self.root / "docs" / "PROMISES.md").unlink()
+        found = [str(finding) for finding in house.findings(self.root)]
+        self.assertIn(missing, found)
+
+    def test_promises_of_edits_that_are_not_there(self):
+        wrong = "is no must-fail edit, and no file of definitions or proofs"
+        for line, wanted in [
+            ("| It adds | | base/plus |", ["base/plus"]),
+            ("| It adds | base/plus | base/minus |", ["base/plus"]),
+            ("In words: base/plus.", ["base/plus"]),
+            ("| It adds | | bass/minus, or none |", ["bass/minus"]),
+            ("| It adds and/or stops | in/out | there is none |", []),
+            ("In words: and/or, `base/src`, base/specs, base/Sums, base/proofs/Laws.antt, https://base/one.", []),
+        ]:
+            with self.subTest(line=line):
+                self.put("docs/PROMISES.md", f"{self.PROMISED}{line}\n")
+                self.assert_found(*(f"docs/PROMISES.md:6: {name} {wrong}" for name in wanted))
+
+    def test_edits_that_do_not_fit_their_file(self):
+        edit = "crates/base/must-fail/minus.edit"
+        times = "times, and must stand there once"
+        for text, wanted in [
+            ("file: src/lib.rt\nold:     a * b\nnew:     a - b\n", [f"2: its `old:` text stands in crates/base/src/lib.rt 0 {times}"]),
+            ("file: src/lib.rt\nold: a\nnew: b\n", [f"2: its `old:` text stands in crates/base/src/lib.rt 7 {times}"]),
+            ("file: src/none.rt\nold: a\nnew: b\n", ["1: there is no crates/base/src/none.rt to change"]),
+            ("file: ../base/src/lib.rt\nold: a\nnew: b\n", ["1: there is no crates/base/../base/src/lib.rt to change"]),
+            ("file: must-fail/minus.edit\nold: a\nnew: b\n", ["1: there is no crates/base/must-fail/minus.edit to change"]),
+            ("old: a + b\nnew: b\n", ["1: it has no `file:`, `old:` and `new:` lines"]),
+            ("file: src/lib.rt\nold: a + b\n", ["1: it has no `file:`, `old:` and `new:` lines"]),
+            ("", ["1: it has no `file:`, `old:` and `new:` lines"]),
+            # A remark, and a second change of the same file, which is as the first left it.
+            ("# a remark\nfile: src/lib.rt\nold: a + b\nnew: c + d\nold: c + d\nnew: a\n", []),
+            ("file: src/lib.rt\nold: a + b\nnew: c\nold: a + b\nnew: a\n", [f"4: its `old:` text stands in crates/base/src/lib.rt 0 {times}"]),
+            ("file: src/lib.rt\nold: a + b\nnew:\nfile: specs/Sums.antt\nold: a + b\nnew: a\n", []),
+        ]:
+            with self.subTest(text=text):
+                self.put(edit, text)
+                self.assert_found(*(f"{edit}:{line}" for line in wanted))
+
+    def test_the_command(self):
+        for path in HERE.iterdir():
+            if path.is_file():
+                self.put(f"tools/{path.name}", path.read_bytes())
+
+        def run_here():
+            done = subprocess.run([sys.executable, str(self.root / "tools" / "house")], capture_output=True, cwd="/")
+            return done.returncode, done.stdout.decode(), done.stderr.decode()
+
+        self.assertEqual(run_here(), (0, "", ""))
+        self.put("crates/base/must-fail/other.edit", self.EDIT)
+        self.assertEqual(run_here(), (1, "crates/base/must-fail/other.edit:1: docs/PROMISES.md does not name base/other\n", ""))
+        shutil.rmtree(self.root / "crates")
+        self.assertEqual(run_here(), (2, "", f"{self.root.resolve() / 'crates'}: No such file or directory\n"))
 
 
 class Geometry(unittest.TestCase):
