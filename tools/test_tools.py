@@ -1397,6 +1397,141 @@ pub m :
         self.assertEqual(run_here(), (2, "", f"{self.root.resolve() / 'crates'}: No such file or directory\n"))
 
 
+class Gate(unittest.TestCase):
+    """.ci/run in a repository of its own, with scripts in place of rt and of what it runs."""
+
+    TALLY = "216 passed, 0 failed"
+
+    def setUp(self):
+        directory = tempfile.TemporaryDirectory()
+        self.addCleanup(directory.cleanup)
+        self.root = pathlib.Path(directory.name)
+        self.script("bin/python3", f'exec "{sys.executable}" "$@"')
+        self.rt()
+        self.script("tools/house", "echo house >>ran")
+        self.script("bindings/run", 'echo "bindings $*" >>ran; echo 5 parts passed, 0 failed')
+        self.write_test("pass")
+        (self.root / ".ci").mkdir()
+        shutil.copy(ROOT / ".ci" / "run", self.root / ".ci" / "run")
+
+    def script(self, name, words):
+        path = self.root / name
+        path.parent.mkdir(exist_ok=True)
+        path.write_text(f"#!/bin/sh\n{words}\n")
+        path.chmod(0o755)
+
+    def rt(self, fmt="exit 0", ci=f"echo rt: ok; echo {TALLY}"):
+        """The stand-in of rt, which removes target/ as the real one does."""
+        self.script("bin/rt", f"echo \"rt $*\" >>ran\ncase $1 in\nfmt) {fmt} ;;\nci) rm -rf target; mkdir target; {ci} ;;\nesac")
+
+    def write_test(self, words):
+        text = f"import unittest\n\nclass One(unittest.TestCase):\n    def test_one(self):\n        open('ran', 'a').write('tests\\n'); {words}\n"
+        (self.root / "tools" / "test_one.py").write_text(text)
+
+    def gate(self, cwd="/", **more):
+        """The gate's exit status, what it printed, on both streams, and which parts it ran."""
+        path = os.pathsep.join([str(self.root / "bin"), "/usr/bin", "/bin"])
+        options = {"stdin": subprocess.DEVNULL, "cwd": cwd, "env": {"PATH": path, "CI": "true", "PYTHONDONTWRITEBYTECODE": "1"}, **more}
+        words = [str(self.root / ".ci" / "run")] if cwd == "/" else ["/bin/sh", ".ci/run"]
+        done = subprocess.run(words, stdout=subprocess.PIPE, stderr=subprocess.STDOUT, **options)
+        ran = (self.root / "ran").read_text().splitlines() if (self.root / "ran").exists() else []
+        return done.returncode, done.stdout.decode(), ran
+
+    ALL = ["rt fmt --check", "house", "tests", "rt ci", "bindings "]
+
+    def assert_fails(self, status, last, parts):
+        found, said, ran = self.gate()
+        self.assertEqual((found, said.splitlines()[-1], ran), (status, last, self.ALL[:parts]), said)
+
+    def test_all_pass(self):
+        status, said, ran = self.gate()
+        self.assertEqual((status, said.splitlines()[-1], ran), (0, self.TALLY, self.ALL), said)
+        self.assertEqual((self.root / "target" / "rt-ci.txt").read_text(), f"rt: ok\n{self.TALLY}\n")
+
+    def test_from_its_own_folder_and_with_a_search_path_for_cd(self):
+        os.makedirs(self.root / "elsewhere" / ".ci")
+        for more in ({}, {"env": dict(os.environ, PATH=f"{self.root / 'bin'}:/usr/bin:/bin", CDPATH=str(self.root / "elsewhere"))}):
+            status, said, _ = self.gate(cwd=self.root, **more)
+            self.assertEqual((status, said.splitlines()[-1]), (0, self.TALLY), said)
+
+    def test_closed_input(self):
+        self.rt(ci=f"cat; echo {self.TALLY}")
+        status, said, _ = self.gate(stdin=None, preexec_fn=lambda: os.close(0))
+        self.assertEqual((status, said.splitlines()[-1]), (0, self.TALLY), said)
+
+    def test_input_is_left_alone(self):
+        self.rt(ci=f"cat; echo {self.TALLY}")
+        reader, writer = os.pipe()  # which never ends
+        status, said, _ = self.gate(stdin=reader, timeout=60)
+        os.close(reader)
+        os.close(writer)
+        self.assertEqual((status, said.splitlines()[-1]), (0, self.TALLY), said)
+
+    def test_the_layout_fails(self):
+        self.rt(fmt="echo not in the layout: a.rt; exit 1")
+        self.assert_fails(1, "FAILED: the layout of every file (status 1)", 1)
+
+    def test_the_rules_fail(self):
+        self.script("tools/house", "echo house >>ran; echo a.rt:1: something; exit 1")
+        self.assert_fails(1, "FAILED: the rules of the repository (status 1)", 2)
+
+    def test_the_tests_fail(self):
+        self.write_test("self.fail()")
+        self.assert_fails(1, "FAILED: the tests of tools/ (status 1)", 3)
+
+    def test_rt_ci_fails(self):
+        for status in (1, 2, 3):
+            self.rt(ci=f"echo rt: FAILED; echo 215 passed, 1 failed; exit {status}")
+            self.assert_fails(status, "215 passed, 1 failed", 4)
+            (self.root / "ran").unlink()
+        self.assertIn("FAILED: everything proved from nothing", self.gate()[1])
+
+    def test_rt_ci_breaks_off(self):
+        part = "everything proved from nothing, every must-fail edit refused, every program run"
+        for ci, status in [("echo rt: no toolchain >&2; exit 2", 2), (f"echo {self.TALLY}; exit 1", 1), ("kill -9 $$", 137), (f"echo {self.TALLY}; echo more", 1), ("true", 1)]:
+            self.rt(ci=ci)
+            self.assert_fails(status, f"FAILED: {part} (status {status})", 4)
+            (self.root / "ran").unlink()
+
+    def test_the_bindings_fail(self):
+        self.script("bindings/run", "echo bindings >>ran; echo 4 parts passed, 1 failed; exit 1")
+        status, said, _ = self.gate()
+        self.assertEqual((status, said.splitlines()[-1]), (1, "FAILED: the bindings, on the library that was proved (status 1)"))
+
+    def test_no_rt(self):
+        (self.root / "bin" / "rt").unlink()
+        if shutil.which("rt", path="/usr/bin:/bin"):
+            self.skipTest("rt stands among the commands of the system")
+        self.assert_fails(127, "FAILED: the layout of every file (status 127)", 0)
+
+    def test_output_is_shown_as_it_comes(self):
+        self.rt(ci=f"echo one; until [ -f seen ]; do sleep 0.05; done; echo {self.TALLY}")
+        environment = {"PATH": f"{self.root / 'bin'}:/usr/bin:/bin"}
+        with subprocess.Popen([str(self.root / ".ci" / "run")], stdout=subprocess.PIPE, stderr=subprocess.STDOUT, env=environment) as running:
+            said = ""
+            while not said.endswith("\none\n"):
+                said += running.stdout.readline().decode()
+            (self.root / "seen").touch()  # the gate has not ended, and what rt said so far is there
+            said += running.stdout.read().decode()
+        self.assertEqual((running.returncode, said.splitlines()[-1]), (0, self.TALLY))
+
+    def test_closed_output(self):
+        self.rt(ci=f"sleep 0.3; echo {self.TALLY}; exit 0")
+        with subprocess.Popen([str(self.root / ".ci" / "run")], stdout=subprocess.PIPE, stderr=subprocess.PIPE, env={"PATH": f"{self.root / 'bin'}:/usr/bin:/bin"}) as running:
+            running.stdout.close()
+            running.stderr.read()
+        self.assertNotEqual(running.returncode, 0)
+
+    def test_it_is_plain_sh(self):
+        text = (ROOT / ".ci" / "run").read_text()
+        self.assertTrue(text.startswith("#!/bin/sh\n"))
+        checker = shutil.which("shellcheck")
+        if checker is None:
+            self.skipTest("there is no shellcheck")
+        done = subprocess.run([checker, "-s", "sh", str(ROOT / ".ci" / "run")], stdout=subprocess.PIPE)
+        self.assertEqual((done.returncode, done.stdout), (0, b""))
+
+
 class Geometry(unittest.TestCase):
     def test_the_typical_size_is_that_of_most_rows(self):
         for distances, wanted in [((1e8, 2e8, 3e8, 1), 1e8), ((1, 1e24), 1), ((1e-9, 5), 5), ((0, 0), 1)]:
