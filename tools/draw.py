@@ -1,92 +1,31 @@
 #!/usr/bin/env python3
+# Needs Python 3.8 or newer, and nothing else.
 """Draws one problem and the answer that rowrun gave to it as an SVG picture."""
+
+import command  # first: it says so where Python is too old
 
 import argparse
 import math
 import re
-import sys
 import textwrap
-from dataclasses import dataclass
 from xml.sax.saxutils import escape
 
+import answers
 import plane
 import records
 
-WIDTH, HEIGHT = 640, 480
-LEFT, TOP, PLOT_WIDTH, PLOT_HEIGHT = 78, 34, 546, 304  # where the plane is shown
+WIDTH = 640  # the height is what the caption needs
+LEFT, TOP, PLOT_WIDTH, PLOT_HEIGHT = 78, 54, 542, 310  # where the plane is shown
 BOX = (LEFT, TOP, LEFT + PLOT_WIDTH, TOP + PLOT_HEIGHT)
-CAPTION_LEFT, CAPTION_STEP = 20, 16
-LINE_LETTERS, BOLD_LETTERS = 84, 72  # letters that fit a line of the caption
-LETTER_WIDTH, LETTER_HEIGHT = 6.6, 14  # of the labels in the plot
+TITLE_TOP, CAPTION_TOP, CAPTION_LEFT, CAPTION_STEP = 26, 52, 20, 19
+SWATCH = 26  # what the sample of a colour takes at the start of a line of the caption
+LINE_LETTERS, BOLD_LETTERS = 78, 72  # letters that fit a line of the caption
+LETTER_WIDTH, LETTER_HEIGHT = 6.9, 15  # of the labels in the plot
 
 # Colours that stay apart for every kind of colour blindness (Okabe and Ito's).
-FIRST, SECOND, FEASIBLE = "#D55E00", "#0072B2", "#009E73"
-PLAIN, SHADE, INK, GRID = "#5F6B76", "#8A97A3", "#1B1F23", "#E3E7EA"
-
-REFUSALS = {
-    1: "the floats lent do not come out even",
-    2: "too many rows",
-    3: "the count is above the allowance",
-    4: "all seven solves passed without an answer",
-    5: "the determinant is not finite or within its error bound",
-    6: "recovery found nothing",
-    7: "the prefix is longer than the rows",
-    8: "the record is cut by the end of input",
-    9: "unknown kind of record",
-    10: "body of wrong size, or normalise byte above 1",
-}
-
-HEX, INDEX, COUNT = "([0-9A-Fa-f]{16})", r"([0-9]+|-)", "([0-9]+)"
-FORMS = {
-    "point": re.compile(f"[0-9]+ point {HEX} {HEX} {INDEX} {INDEX} {COUNT}"),
-    "level": re.compile(f"[0-9]+ level ()?{HEX} {INDEX} {INDEX} {COUNT}"),
-    "across": re.compile(f"[0-9]+ across {HEX} ()?{INDEX} {INDEX} {COUNT}"),
-    "nothing": re.compile(f"[0-9]+ nothing ()?()?{INDEX} {INDEX} {COUNT}"),
-}
-REFUSED = re.compile("[0-9]+ refused ([0-9]+)")
-
-
-@dataclass
-class Answer:
-    """What rowrun answered. x and y are None where the answer has none, first and second for no row."""
-
-    kind: str
-    x: float = None
-    y: float = None
-    first: int = None
-    second: int = None
-    count: int = None
-    refusal: int = None
-
-    def active(self):
-        return [number for number in (self.first, self.second) if number is not None]
-
-
-def read_answer(line):
-    """The answer of one line of rowrun."""
-    match = REFUSED.fullmatch(line)
-    if match:
-        return Answer("refused", refusal=int(match[1]))
-    for kind, form in FORMS.items():
-        match = form.fullmatch(line)
-        if match:
-            x, y = (records.float_of(int(digits, 16)) if digits else None for digits in match.groups()[:2])
-            if any(value is not None and math.isnan(value) for value in (x, y)):
-                raise ValueError("a coordinate is NaN")
-            first, second = (None if word == "-" else int(word) for word in match.groups()[2:4])
-            return Answer(kind, x, y, first, second, int(match[5]))
-    raise ValueError(f"not a line of rowrun: '{line[:60]}'")
-
-
-def find_answer(data, name, number):
-    """The answer to record `number` among the lines of rowrun."""
-    for place, line in enumerate(data.decode("utf-8", "replace").splitlines(), 1):
-        if line.split()[:1] == [str(number)]:
-            try:
-                return read_answer(line.strip())
-            except ValueError as wrong:
-                raise records.TextError(name, place, wrong) from None
-    raise ValueError(f"{name}: no line for record {number}")
+FIRST, SECOND, FEASIBLE, FEASIBLE_SHADE = "#D55E00", "#0072B2", "#009E73", 0.32
+PLAIN, AXIS, SHADE, INK, GRID = "#5F6B76", "#AAB4BD", "#8A97A3", "#1B1F23", "#E3E7EA"
+PAPER, EDGE = "#FFFFFF", "#D0D7DE"  # the picture brings its own background, so that it is read on a dark page too
 
 
 def looks_like_records(data):
@@ -119,35 +58,6 @@ def brief(number):
     return short(float(format(number, ".6g")))
 
 
-def say_active(answer):
-    """The active rows in words."""
-    if answer.first is not None and answer.second is not None:
-        return f"rows {answer.first} and {answer.second}"
-    if answer.first is not None:
-        return f"first active row {answer.first}, no second"
-    if answer.second is not None:
-        return f"no first active row, second {answer.second}"
-    return "no active rows"
-
-
-def say_place(answer):
-    """The answer without rows and count, in words."""
-    if answer.kind == "point":
-        return f"point ({brief(answer.x)}, {brief(answer.y)})"
-    if answer.kind == "level":
-        return f"level y = {brief(answer.y)}, x is open"
-    if answer.kind == "across":
-        return f"across x = {brief(answer.x)}, y is open"
-    return "nothing: neither x nor y"
-
-
-def say_answer(answer):
-    """The whole answer in words."""
-    if answer.kind == "refused":
-        return f"refused {answer.refusal}: {REFUSALS.get(answer.refusal, 'no meaning is known for this number')}"
-    return f"{say_place(answer)}, {say_active(answer)}, count {answer.count}"
-
-
 def say_term(factor, letter, leading):
     """A factor times a letter, with its sign."""
     if factor == 0:
@@ -161,10 +71,10 @@ def say_row(number, row):
     """A row as an inequality."""
     a, b, c = row
     if math.isnan(a) or math.isnan(b):
-        return f"row {number}: {brief(a)} x + {brief(b)} y <= {brief(c)}"
+        return f"row {number}: {brief(a)} x + {brief(b)} y \u2264 {brief(c)}"
     left = say_term(a, "x", True)
     left += say_term(b, "y", not left)
-    return f"row {number}: {left or '0'} <= {brief(c)}"
+    return f"row {number}: {left or '0'} \u2264 {brief(c)}"
 
 
 def say_runs(rows):
@@ -219,7 +129,7 @@ class Picture:
     def text(self, x, y, words, attributes=""):
         self.parts.append(f'<text x="{x:.2f}" y="{y:.2f}" {attributes}>{escape(words)}</text>')
 
-    def label(self, words, spots, colour, own=None):
+    def label(self, words, spots, colour, own=None, bold=False):
         """Writes words centred on the spot that collides least, the earlier the better; own is the line named."""
         width = LETTER_WIDTH * len(words) + 4
 
@@ -229,9 +139,9 @@ class Picture:
         best = min(range(len(spots)), key=lambda place: (self.collisions(box_at(spots[place]), own), place))
         x, y = spots[best]
         self.taken.append(box_at(spots[best]))
-        halo = 'stroke="#FFFFFF" stroke-width="3" stroke-linejoin="round"'
-        for paint in (halo, ""):
-            self.text(x, y + 4, words, f'text-anchor="middle" font-size="12" fill="{colour}" {paint}')
+        look = f'text-anchor="middle" font-size="13" fill="{colour}"' + (' font-weight="bold"' if bold else "")
+        for paint in (f' stroke="{PAPER}" stroke-width="4" stroke-linejoin="round"', ""):  # a halo, then the letters
+            self.text(x, y + 4.5, words, look + paint)
 
     def collisions(self, box, own):
         """How badly a label would stand here: outside the plot is worst, then on others, then on lines."""
@@ -249,18 +159,18 @@ def draw_grid(picture):
     view = picture.view
     left, top, right, bottom = BOX
     words = f'stroke="none" fill="{INK}"'
-    picture.parts.append(f'<g id="axes" stroke="{GRID}" font-size="11">')
+    picture.parts.append(f'<g id="axes" stroke="{GRID}" font-size="12">')
     for value in ticks_with_room(view):
         x = picture.pixel(view.shares(value, view.bottom))[0]
-        picture.line((x, top), (x, bottom), f'stroke="{PLAIN}"' if value == 0 else "")
-        picture.text(x, bottom + 15, short(value), f'class="x-tick" text-anchor="middle" {words}')
+        picture.line((x, top), (x, bottom), f'stroke="{AXIS}"' if value == 0 else "")
+        picture.text(x, bottom + 17, short(value), f'class="x-tick" text-anchor="middle" {words}')
     for value in plane.ticks(view.bottom, view.top, 6):
         y = picture.pixel(view.shares(view.left, value))[1]
-        picture.line((left, y), (right, y), f'stroke="{PLAIN}"' if value == 0 else "")
+        picture.line((left, y), (right, y), f'stroke="{AXIS}"' if value == 0 else "")
         picture.text(left - 6, y + 4, short(value), f'class="y-tick" text-anchor="end" {words}')
     picture.parts.append("</g>")
-    picture.text(right, bottom + 29, "x", 'text-anchor="end" font-size="12" font-style="italic"')
-    picture.text(left - 6, top - 14, "y", 'text-anchor="end" font-size="12" font-style="italic"')
+    picture.text(right, bottom + 33, "x", 'text-anchor="end" font-size="14" font-style="italic"')
+    picture.text(left - 6, top - 11, "y", 'text-anchor="end" font-size="14" font-style="italic"')
 
 
 def ticks_with_room(view):
@@ -276,7 +186,7 @@ def draw_shading(picture, cuts):
     """The excluded sides, lightly, and what all rows leave. Many rows are shaded together, lest all turn dark."""
     left_over = plane.clip_all(plane.UNIT_SQUARE, [cut for _, cut in cuts])
     few = len(cuts) <= plane.FEW_ROWS
-    picture.parts.append(f'<g id="excluded" fill="{SHADE}" fill-opacity="{0.16 if few else 0.3}">')
+    picture.parts.append(f'<g id="excluded" fill="{SHADE}" fill-opacity="{0.1 if few else 0.3}">')
     if few:
         sides = [plane.clip(plane.UNIT_SQUARE, (-a, -b, -r), 0.0) for _, (a, b, r) in cuts]
     else:
@@ -286,10 +196,15 @@ def draw_shading(picture, cuts):
     picture.parts.append("</g>")
     if left_over:
         if not few:
-            picture.polygon(left_over, 'fill="#FFFFFF"')
-        colours = f'fill="{FEASIBLE}" fill-opacity="0.28" stroke="{FEASIBLE}" stroke-width="1.5"'
+            picture.polygon(left_over, f'fill="{PAPER}"')
+        colours = f'fill="{FEASIBLE}" fill-opacity="{FEASIBLE_SHADE}" stroke="{FEASIBLE}" stroke-width="1.5"'
         picture.polygon(left_over, f'id="feasible" {colours} stroke-linejoin="round"')
     return bool(left_over)
+
+
+def colour_of(number, answer):
+    """The colour of an active row."""
+    return FIRST if number == answer.first else SECOND
 
 
 def draw_boundaries(picture, cuts, answer):
@@ -305,8 +220,8 @@ def draw_boundaries(picture, cuts, answer):
         start, end = map(picture.pixel, segment)
         colour, look = PLAIN, f'class="row" {thin}'
         if number in answer.active():
-            colour = FIRST if number == answer.first else SECOND
-            look = 'class="row active" stroke-width="3"'
+            colour = colour_of(number, answer)
+            look = 'class="row active" stroke-width="3.5"'
         picture.line(start, end, f'id="row-{number}" {look} stroke="{colour}"')
         if few or number in answer.active():
             shown[number] = (start, end, colour, cut)
@@ -333,7 +248,8 @@ def name_boundaries(picture, shown):
             for share in (0.9, 0.1, 0.8, 0.2, 0.7, 0.3, 0.6, 0.4, 0.5, 0.95, 0.05):
                 x, y = start[0] + share * across, start[1] + share * up
                 spots.append((x + side * off * normal[0], y + side * off * normal[1]))
-        picture.label(words, spots, colour if colour != PLAIN else INK, (start, end))
+        active = colour != PLAIN
+        picture.label(words, spots, colour if active else INK, (start, end), active)
 
 
 def draw_answer(picture, answer):
@@ -351,9 +267,9 @@ def draw_answer(picture, answer):
     if beyond_x or beyond_y:
         draw_arrow(picture, at, (beyond_x, -beyond_y), say_far(answer))
     elif answer.kind == "point":
-        look = f'fill="{INK}" stroke="#FFFFFF" stroke-width="2"'
-        picture.parts.append(f'<circle id="answer" cx="{at[0]:.2f}" cy="{at[1]:.2f}" r="6" {look}/>')
-        picture.taken.append((at[0] - 8, at[1] - 8, at[0] + 8, at[1] + 8))
+        look = f'fill="{INK}" stroke="{PAPER}" stroke-width="2.5"'
+        picture.parts.append(f'<circle id="answer" cx="{at[0]:.2f}" cy="{at[1]:.2f}" r="7" {look}/>')
+        picture.taken.append((at[0] - 9, at[1] - 9, at[0] + 9, at[1] + 9))
         label_beside(picture, at, say_far(answer))
     else:
         draw_answer_line(picture, at, answer)
@@ -370,12 +286,12 @@ def label_beside(picture, at, words):
     """Writes words near a mark: above it if that is free, otherwise around it, otherwise farther off."""
     half = LETTER_WIDTH * len(words) / 2 + 2
     spots = []
-    for away in (12, 22, 36):
+    for away in (12, 20, 28, 36):
         for turn in (0, 2, -2, 3, -3, 1, -1, 4, -4, 5, -5, 6):
             angle = turn * math.pi / 6
             across, up = math.sin(angle), math.cos(angle)
             spots.append((at[0] + across * (half + away), at[1] - up * (LETTER_HEIGHT / 2 + away)))
-    picture.label(words, spots, INK)
+    picture.label(words, spots, INK, bold=True)
 
 
 def draw_arrow(picture, at, way, words):
@@ -409,34 +325,45 @@ def draw_answer_line(picture, at, answer):
 
 
 def caption(problem, answer, missing, outside, left_over):
-    """The lines under the picture, the first of them in bold."""
+    """The lines under the picture, each with the look of what it is about: "bold" for the answer, None for what is not drawn."""
     rows = problem.float_rows()
-    lines = textwrap.wrap(say_answer(answer), BOLD_LETTERS)
-    lines += [say_row(place, rows[place]) for place in dict.fromkeys(answer.active())]
+    lines = [(line, "bold") for line in textwrap.wrap(answers.say_answer(answer, brief), BOLD_LETTERS)]
+    for place in dict.fromkeys(answer.active()):
+        lines.append((say_row(place, rows[place]), f'stroke="{colour_of(place, answer)}" stroke-width="3.5"'))
     if missing:
-        lines.append(say_list("No boundary, not drawn: ", missing))
+        lines.append((say_list("No boundary, not drawn: ", missing), None))
     if outside:
-        lines.append(say_list("Boundary outside the picture: ", [(place, "") for place in outside]))
-    if not left_over:
-        lines.append("No point in view meets every row.")
+        lines.append((say_list("Boundary outside the picture: ", [(place, "") for place in outside]), None))
+    if left_over is not None:
+        green = f'stroke="{FEASIBLE}" stroke-width="11" stroke-opacity="{FEASIBLE_SHADE}"'
+        lines.append(("the points that meet every row", green) if left_over else ("No point in view meets every row.", None))
     return lines
 
 
 def draw_caption(picture, title, lines):
-    """The title above the plot and the caption under it."""
-    picture.text(LEFT, 20, title, 'font-size="13" font-weight="bold"')
-    for place, line in enumerate(lines):
-        weight = 'font-size="13" font-weight="bold"' if place == 0 else 'font-size="12"'
-        picture.text(CAPTION_LEFT, BOX[3] + 46 + CAPTION_STEP * place, line, f'class="caption" {weight}')
+    """The title above the plot and the caption under it. The height that the whole picture has."""
+    picture.text(CAPTION_LEFT, TITLE_TOP, title, 'font-size="15" font-weight="bold"')
+    height = BOX[3] + CAPTION_TOP
+    for line, look in lines:
+        left, weight = CAPTION_LEFT, 'font-size="13"'
+        if look == "bold":
+            weight = 'font-size="14" font-weight="bold"'
+        elif look is not None:
+            picture.line((left, height - 4.5), (left + SWATCH - 8, height - 4.5), look)
+            left += SWATCH
+        picture.text(left, height, line, f'class="caption" {weight}')
+        height += CAPTION_STEP
+    return height
 
 
-def compose(picture, title, words):
+def compose(picture, height, title, words):
     """The whole document around the parts of a picture."""
     opening = (
-        f'<svg xmlns="http://www.w3.org/2000/svg" viewBox="0 0 {WIDTH} {HEIGHT}" width="{WIDTH}" height="{HEIGHT}"'
+        f'<svg xmlns="http://www.w3.org/2000/svg" viewBox="0 0 {WIDTH} {height}" width="{WIDTH}" height="{height}"'
         f' font-family="Helvetica, Arial, sans-serif" fill="{INK}" role="img">'
     )
-    background = f'<rect width="{WIDTH}" height="{HEIGHT}" fill="#FFFFFF"/>'
+    size = f'width="{WIDTH - 1}" height="{height - 1}" rx="8"'
+    background = f'<rect x="0.5" y="0.5" {size} fill="{PAPER}" stroke="{EDGE}"/>'
     head = ['<?xml version="1.0" encoding="UTF-8"?>', opening, f"<title>{escape(title)}</title>"]
     return "\n".join(head + [f"<desc>{escape(words)}</desc>", background] + picture.parts + ["</svg>"]) + "\n"
 
@@ -457,7 +384,7 @@ def draw(number, record, answer):
     picture = Picture(view)
     cuts = [(found.number, view.cut(found)) for found in planes]
     draw_grid(picture)
-    left_over = draw_shading(picture, cuts) if problem is record else True
+    left_over = draw_shading(picture, cuts) if problem is record else None
     shown = draw_boundaries(picture, cuts, answer)
     frame = f'x="{LEFT}" y="{TOP}" width="{PLOT_WIDTH}" height="{PLOT_HEIGHT}"'
     picture.parts.append(f'<rect {frame} fill="none" stroke="{PLAIN}"/>')
@@ -466,8 +393,8 @@ def draw(number, record, answer):
     outside = [found.number for found in planes if found.number not in shown]
     lines = caption(problem, answer, missing, outside, left_over)
     title = say_title(number, record)
-    draw_caption(picture, title, lines)
-    return compose(picture, title, say_answer(answer))
+    height = draw_caption(picture, title, lines)
+    return compose(picture, height, title, answers.say_answer(answer, brief))
 
 
 def say_title(number, record):
@@ -475,7 +402,7 @@ def say_title(number, record):
     if not isinstance(record, records.Problem):
         return f"Record {number}: not a problem"
     rows = len(record.rows)
-    return f"Record {number}: {rows} row{'' if rows == 1 else 's'}"
+    return f"Record {number}: the highest y that meets {rows} row{'' if rows == 1 else 's'}"
 
 
 # The command
@@ -491,17 +418,17 @@ def main(arguments=None):
     if chosen.problem == chosen.answers == "-":
         parser.error("only one of PROBLEM and ANSWERS can be standard input")
     try:
-        record = find_record(records.read_input(chosen.problem), chosen.problem, chosen.record, chosen.form)
-        answer = find_answer(records.read_input(chosen.answers), chosen.answers, chosen.record)
+        record = find_record(command.read_input(chosen.problem), chosen.problem, chosen.record, chosen.form)
+        answer = answers.find_answer(command.read_input(chosen.answers), chosen.answers, chosen.record)
         picture = draw(chosen.record, record, answer)
     except OSError as wrong:
-        print(f"{wrong.filename or 'input'}: {wrong.strerror or wrong}", file=sys.stderr)
+        command.complain(command.say_failure(wrong))
         return 2
     except (ValueError, records.TextError) as wrong:
-        print(wrong, file=sys.stderr)
+        command.complain(wrong)
         return 2
-    return records.write_output(picture.encode())
+    return command.write_output(picture.encode())
 
 
 if __name__ == "__main__":
-    sys.exit(main())
+    command.run(main)

@@ -1,4 +1,4 @@
-"""The geometry of a picture: half-planes, what they leave of a polygon, and the part of the plane to show."""
+"""The geometry of a picture: half-planes, what they leave of a polygon, and the part of the plane to show. Needs Python 3.8."""
 
 import bisect
 import itertools

@@ -1,11 +1,12 @@
 #!/usr/bin/env python3
+# Needs Python 3.8 or newer, and nothing else.
 """Turns text into the records that rowrun reads, and records back into text, without losing a bit."""
+
+import command  # first: it says so where Python is too old
 
 import argparse
 import codecs
-import os
 import struct
-import sys
 from dataclasses import dataclass, field
 
 HEADER = struct.Struct("<IH")  # length of the body, kind of the record
@@ -270,7 +271,8 @@ def parse_text(data, name, before=()):
     """The records of a text given as bytes; a tail among those before it leaves no room for more."""
     records = list(before[-1:]) if before and isinstance(before[-1], Tail) else []
     kept_from = len(records)
-    for number, line in enumerate(data.removeprefix(codecs.BOM_UTF8).split(b"\n"), 1):
+    text = data[len(codecs.BOM_UTF8) :] if data.startswith(codecs.BOM_UTF8) else data
+    for number, line in enumerate(text.split(b"\n"), 1):
         try:
             read_line(line.decode("utf-8").partition("#")[0], records)
         except UnicodeDecodeError:
@@ -283,48 +285,22 @@ def parse_text(data, name, before=()):
 # The command
 
 
-def read_input(name):
-    """The whole of a file, or of standard input for '-'."""
-    if name != "-":
-        with open(name, "rb") as file:
-            return file.read()
-    if sys.stdin is None:
-        raise OSError("standard input is closed")
-    return sys.stdin.buffer.read()
-
-
-def write_output(data):
-    """Writes bytes to standard output. The exit status: 1 when they cannot all be written."""
-    if sys.stdout is None:
-        return 1
-    try:
-        sys.stdout.buffer.write(data)
-        sys.stdout.buffer.flush()
-        return 0
-    except OSError as wrong:
-        # What is still buffered must not be tried again, and complained of, at exit.
-        os.dup2(os.open(os.devnull, os.O_WRONLY), sys.stdout.fileno())
-        if not isinstance(wrong, BrokenPipeError):
-            print(f"standard output: {wrong.strerror}", file=sys.stderr)
-        return 1
-
-
 def pack(names):
     """Packs texts, all or none of them: the first error of each is named."""
     records = []
     failed = False
     for name in names:
         try:
-            records += parse_text(read_input(name), "standard input" if name == "-" else name, records)
+            records += parse_text(command.read_input(name), "standard input" if name == "-" else name, records)
         except TextError as wrong:
             failed = True
-            print(wrong, file=sys.stderr)
-    return 2 if failed else write_output(write_records(records))
+            command.complain(wrong)
+    return 2 if failed else command.write_output(write_records(records))
 
 
 def unpack(name):
     """Unpacks a stream of records."""
-    return write_output(format_text(read_records(read_input(name))).encode())
+    return command.write_output(format_text(read_records(command.read_input(name))).encode())
 
 
 def main(arguments=None):
@@ -338,9 +314,9 @@ def main(arguments=None):
     try:
         return pack(chosen.files or ["-"]) if chosen.command == "pack" else unpack(chosen.file)
     except OSError as wrong:
-        print(f"{wrong.filename or 'input'}: {wrong.strerror or wrong}", file=sys.stderr)
+        command.complain(command.say_failure(wrong))
         return 2
 
 
 if __name__ == "__main__":
-    sys.exit(main())
+    command.run(main)

@@ -1,28 +1,52 @@
-"""Tests of records.py and draw.py: python3 -m unittest discover tools
+"""Tests of the tools: python3 -m unittest discover tools
 
-The round trip of a whole stream takes crates/rowrun/stdin and its stdout, or the files that the environment
-variables ROWRUN_RECORDS and ROWRUN_ANSWERS name.
+They need Python 3.8 and neither rt nor rowrun, for which scripts stand in. The round trip of a whole stream takes
+crates/rowrun/stdin and its stdout, or the files that the environment variables ROWRUN_RECORDS and ROWRUN_ANSWERS name.
 """
 
+import command  # first: it says so where Python is too old
+
+import importlib.machinery
+import importlib.util
 import math
 import os
 import pathlib
 import random
+import shutil
+import signal
+import stat
 import struct
 import subprocess
 import sys
 import tempfile
+import threading
 import time
 import unittest
 import xml.etree.ElementTree
 
+import answers
 import draw
 import plane
 import records
 
 HERE = pathlib.Path(__file__).resolve().parent
-ROWRUN = HERE.parent / "crates" / "rowrun"
+ROOT = HERE.parent
+ROWRUN = ROOT / "crates" / "rowrun"
 SPACE = "{http://www.w3.org/2000/svg}"
+EXAMPLE_LINE = "1 point 3FF0000000000000 401C000000000000 6 5 28"  # what rowrun answers to example.txt
+
+
+def load(name):
+    """A command of this directory whose file has no ending, as a module."""
+    loader = importlib.machinery.SourceFileLoader(name, str(HERE / name))
+    module = importlib.util.module_from_spec(importlib.util.spec_from_loader(name, loader))
+    sys.modules[name] = module  # where its classes look for it
+    loader.exec_module(module)
+    return module
+
+
+answer = load("answer")
+house = load("house")
 
 
 def stream_file(variable, name):
@@ -31,9 +55,9 @@ def stream_file(variable, name):
     return path if path.is_file() else None
 
 
-def run(command, *arguments, given=b""):
+def run(name, *arguments, given=b""):
     """Runs a command of this directory to its end."""
-    return subprocess.run([sys.executable, str(HERE / command), *map(str, arguments)], input=given, capture_output=True)
+    return subprocess.run([sys.executable, str(HERE / name), *map(str, arguments)], input=given, capture_output=True)
 
 
 def hexed(number):
@@ -175,7 +199,8 @@ class RoundTrips(unittest.TestCase):
         for _ in range(300):
             data = b""
             for _ in range(source.randrange(4)):
-                content = source.choice([body((1, 2, 3)), source.randbytes(source.choice([0, 48, 49, 50, 73]))])
+                size = source.choice([0, 48, 49, 50, 73])
+                content = source.choice([body((1, 2, 3)), source.getrandbits(8 * size + 1).to_bytes(size + 1, "little")[:size]])
                 data += record(source.choice([0, 1, 1, 2, 65535]), content)
             self.check(data[: len(data) - source.choice([0, 0, 1, 30])])
 
@@ -214,8 +239,8 @@ class Commands(unittest.TestCase):
         self.assertEqual(run("records.py", "unpack", given=record(7, b"\xaa")).stdout, b"# record 1\nraw kind=7 body=AA\n")
 
     def test_empty_input(self):
-        for command in ("pack", "unpack"):
-            done = run("records.py", command)
+        for verb in ("pack", "unpack"):
+            done = run("records.py", verb)
             self.assertEqual((done.returncode, done.stdout, done.stderr), (0, b"", b""))
 
     def test_an_error_writes_nothing(self):
@@ -230,15 +255,18 @@ class Commands(unittest.TestCase):
         self.assertTrue(done.stderr.decode().endswith("two:2: nothing can follow a tail\n"))
 
     def test_a_missing_file(self):
-        for command in ("pack", "unpack"):
-            done = run("records.py", command, self.directory / "none")
+        for verb in ("pack", "unpack"):
+            done = run("records.py", verb, self.directory / "none")
             self.assertEqual((done.returncode, done.stdout), (2, b""))
             self.assertEqual(done.stderr.decode(), f"{self.directory / 'none'}: No such file or directory\n")
 
+    def start(self, *words, **streams):
+        """Starts a command of this directory."""
+        return subprocess.Popen([sys.executable, str(HERE / words[0]), *map(str, words[1:])], stderr=subprocess.PIPE, **streams)
+
     def test_input_that_comes_in_pieces(self):
         data = record(1, body((1, 2, 3)))
-        command = [sys.executable, str(HERE / "records.py"), "unpack"]
-        with subprocess.Popen(command, stdin=subprocess.PIPE, stdout=subprocess.PIPE) as process:
+        with self.start("records.py", "unpack", stdin=subprocess.PIPE, stdout=subprocess.PIPE) as process:
             for piece in (data[:3], data[3:40], data[40:]):
                 process.stdin.write(piece)
                 process.stdin.flush()
@@ -246,16 +274,87 @@ class Commands(unittest.TestCase):
             process.stdin.close()
             self.assertEqual(process.stdout.read(), run("records.py", "unpack", given=data).stdout)
 
+    def test_reads_that_are_interrupted_or_have_nothing_yet(self):
+        data = record(1, body((1, 2, 3))) * 2000  # more than a pipe holds
+        reader, writer = os.pipe()
+        os.set_blocking(reader, False)
+        with self.start("records.py", "unpack", stdin=reader, stdout=subprocess.PIPE) as process, open(writer, "wb") as sink:
+            os.close(reader)
+            said = []
+            taking = threading.Thread(target=lambda: said.append(process.stdout.read()))
+            taking.start()
+            for place in range(0, len(data), 60000):
+                time.sleep(0.05)
+                process.send_signal(signal.SIGSTOP)
+                process.send_signal(signal.SIGCONT)
+                sink.write(data[place : place + 60000])
+                sink.flush()
+            sink.close()
+            taking.join()
+        self.assertEqual(said[0], run("records.py", "unpack", given=data).stdout)
+        self.assertEqual(process.returncode, 0)
+
+    def test_a_signal_during_a_read(self):
+        reader, writer = os.pipe()
+        rings = []
+        before = signal.signal(signal.SIGALRM, lambda *_: rings.append(os.write(writer, b"x") if len(rings) < 3 else os.close(writer)))
+        self.addCleanup(signal.signal, signal.SIGALRM, before)
+        self.addCleanup(signal.setitimer, signal.ITIMER_REAL, 0)
+        signal.setitimer(signal.ITIMER_REAL, 0.05, 0.05)
+        try:
+            self.assertEqual(command.read_all(reader), b"xxx")
+        finally:
+            signal.setitimer(signal.ITIMER_REAL, 0)
+            os.close(reader)
+
+    def test_output_that_is_taken_slowly(self):
+        data = record(1, body((1, 2, 3))) * 5000
+        reader, writer = os.pipe()
+        os.set_blocking(writer, False)
+        stream = self.file("stream", data)
+        with self.start("records.py", "unpack", stream, stdout=writer) as process, open(reader, "rb") as source:
+            os.close(writer)
+            taken = b""
+            while True:
+                portion = source.read1(50000)
+                if not portion:
+                    break
+                taken += portion
+                time.sleep(0.005)
+        self.assertEqual((process.returncode, taken), (0, run("records.py", "unpack", stream).stdout))
+
     def test_closed_output(self):
         large = self.file("large", b"lp\n" + b"1 2 3\n" * 20000)
         small = self.file("small", b"lp\n1 2 3")  # fails only when it is flushed
-        for command in (["records.py", "pack", large], ["records.py", "pack", small], ["draw.py", HERE / "sample.txt", self.file("a", SAMPLE_ANSWERS)]):
+        drawing = ["draw.py", HERE / "sample.txt", self.file("a", SAMPLE_ANSWERS)]
+        for words in (["records.py", "pack", large], ["records.py", "pack", small], drawing, ["draw.py", "--help"]):
             reader, writer = os.pipe()
             os.close(reader)  # nobody reads: the first write fails
-            arguments = [sys.executable, str(HERE / command[0]), *map(str, command[1:])]
-            done = subprocess.run(arguments, stdout=writer, stderr=subprocess.PIPE)
-            os.close(writer)
-            self.assertEqual((done.returncode, done.stderr), (1, b""))
+            with self.start(*words, stdout=writer) as process:
+                os.close(writer)
+                self.assertEqual(process.stderr.read(), b"", words)
+            self.assertIn(process.returncode, (0, 1) if "--help" in words else (1,), words)
+
+    def test_output_that_cannot_be_written(self):
+        small = self.file("small", b"lp\n1 2 3")
+        with open("/dev/full", "wb") as full, self.start("records.py", "pack", small, stdout=full) as process:
+            self.assertEqual((process.stderr.read(), process.wait()), (b"standard output: No space left on device\n", 1))
+        for closed, wanted in ((1, b"standard output: it is closed\n"), (0, b"input: standard input is closed\n")):
+            words = ["records.py", "pack"] + ([small] if closed == 1 else [])
+            with self.start(*words, stdout=subprocess.DEVNULL, preexec_fn=lambda: os.close(closed)) as process:
+                self.assertEqual(process.stderr.read(), wanted)
+            self.assertNotEqual(process.returncode, 0)
+
+    def test_messages_never_go_to_standard_output(self):
+        bad = self.file("bad", b"lp\n1 2")
+        with self.start("records.py", "pack", bad, stdout=subprocess.PIPE, preexec_fn=lambda: os.close(2)) as process:
+            self.assertEqual((process.stdout.read(), process.wait()), (b"", 2))
+
+    def test_stopped_by_hand(self):
+        with self.start("records.py", "pack", stdin=subprocess.PIPE, stdout=subprocess.PIPE) as process:
+            time.sleep(0.5)
+            process.send_signal(signal.SIGINT)
+            self.assertEqual((process.wait(), process.stderr.read()), (130, b""))
 
     def test_drawing_by_text_and_by_records(self):
         answers = self.file("answers", SAMPLE_ANSWERS)
@@ -263,7 +362,7 @@ class Commands(unittest.TestCase):
         by_text = run("draw.py", HERE / "sample.txt", answers, "--record", 2)
         by_records = run("draw.py", stream, answers, "--record", 2)
         self.assertEqual((by_text.returncode, by_text.stderr), (0, b""))
-        self.assertIn(b"Record 2: 2 rows", by_text.stdout)
+        self.assertIn(b"Record 2: the highest y that meets 2 rows", by_text.stdout)
         self.assertEqual(by_records.stdout, by_text.stdout)
         self.assertEqual(run("draw.py", stream, answers, "--record", 2, "--as", "text").returncode, 2)
         piped = run("draw.py", stream, "-", "--record", 2, given=SAMPLE_ANSWERS)
@@ -326,7 +425,7 @@ class Svg:
 def picture(rows, line, **front):
     """The picture of a problem with these rows and this line of rowrun without its number."""
     content = records.read_records(record(1, body(*rows, **front)))[0]
-    return Svg(draw.draw(1, content, draw.read_answer(f"1 {line}")))
+    return Svg(draw.draw(1, content, answers.read_line(f"1 {line}")[1]))
 
 
 def point(x, y, rest="- - 7"):
@@ -357,7 +456,8 @@ class Drawing(unittest.TestCase):
         self.assertEqual(mark.tag, SPACE + "circle")
         self.assertAlmostEqual(drawn.plane("x", float(mark.get("cx"))), 1, delta=0.01)
         self.assertAlmostEqual(drawn.plane("y", float(mark.get("cy"))), 1, delta=0.01)
-        self.assertEqual(drawn.root.get("viewBox"), "0 0 640 480")
+        width, height = drawn.root.get("width"), drawn.root.get("height")
+        self.assertEqual((width, drawn.root.get("viewBox")), ("640", f"0 0 {width} {height}"))
 
     def test_s3_boundaries_are_the_rows(self):
         drawn = picture(self.S3, point(1, 1, "0 1 7"))
@@ -390,24 +490,16 @@ class Drawing(unittest.TestCase):
     def test_captions(self):
         one = (hexed(1), hexed(-2.5))
         for line, wanted in [
-            (f"point {one[0]} {one[1]} 0 1 7", "point (1, -2.5), rows 0 and 1, count 7"),
-            (f"point {one[0]} {one[1]} 1 - 23", "point (1, -2.5), first active row 1, no second, count 23"),
-            (f"point {one[0]} {one[1]} - 1 23", "point (1, -2.5), no first active row, second 1, count 23"),
-            (f"level {one[1]} - - 1", "level y = -2.5, x is open, no active rows, count 1"),
-            (f"across {one[1]} - - 4", "across x = -2.5, y is open, no active rows, count 4"),
-            ("nothing - - 0", "nothing: neither x nor y, no active rows, count 0"),
-            ("refused 3", "refused 3: the count is above the allowance"),
-            ("refused 11", "refused 11: no meaning is known for this number"),
+            (f"point {one[0]} {one[1]} 0 1 7", "point x = 1, y = -2.5; active rows 0 and 1; 7 readings"),
+            (f"level {one[1]} - - 1", "level y = -2.5, x is open; no active rows; 1 reading"),
+            (point(1 / 3, 2e6 / 3), "point x = 0.333333, y = 666667; no active rows; 7 readings"),
+            ("refused 3", "refused 3: the answer takes more readings than the allowance"),
         ]:
             self.assertEqual(picture(self.S3, line).captions[0], wanted)
 
-    def test_every_refusal_has_its_own_meaning(self):
-        captions = {picture(self.S3, f"refused {number}").captions[0] for number in range(1, 11)}
-        self.assertEqual(len({caption.split(": ")[1] for caption in captions}), 10)
-
     def test_active_rows_as_inequalities(self):
         drawn = picture([(-1, 0.5, 2), (0, -3, 1e24)], point(0, 0, "0 1 7"))
-        self.assertEqual(drawn.captions[1:3], ["row 0: -x + 0.5 y <= 2", "row 1: -3 y <= 1e24"])
+        self.assertEqual(drawn.captions[1:3], ["row 0: -x + 0.5 y \u2264 2", "row 1: -3 y \u2264 1e24"])
 
     def test_level_is_horizontal_and_across_vertical(self):
         (x1, y1), (x2, y2) = picture([(0, 2, 6)], f"level {hexed(3)} - - 1").ends("answer")
@@ -449,8 +541,8 @@ class Drawing(unittest.TestCase):
     def test_a_long_answer_is_broken_into_lines(self):
         line = point(-1.23456e-138, -6.54321e-201, f"- 1 {2**64 - 1}")
         captions = picture(self.S3, line).captions
-        self.assertLessEqual(max(map(len, captions)), 84)
-        self.assertLessEqual(len(captions[0]), 72)
+        self.assertLessEqual(max(map(len, captions)), draw.LINE_LETTERS)
+        self.assertLessEqual(len(captions[0]), draw.BOLD_LETTERS)
         self.assertIn(str(2**64 - 1), captions[1])
 
     def test_names_stand_on_the_excluded_side(self):
@@ -461,13 +553,14 @@ class Drawing(unittest.TestCase):
 
     def test_labels_of_the_example_keep_apart(self):
         problem = records.parse_text((HERE / "example.txt").read_bytes(), "example")[0]
-        drawn = Svg(draw.draw(1, problem, draw.read_answer("1 " + point(1, 7, "6 5 28"))))
+        drawn = Svg(draw.draw(1, problem, answers.read_line("1 " + point(1, 7, "6 5 28"))[1]))
         names = [f"row {number}" for number in range(7)] + ["(1, 7)"]
         places = {text.text: text for text in drawn.root.iter(f"{SPACE}text") if text.text in names}
-        boxes = [(float(text.get("x")), float(text.get("y")), 3.3 * len(words)) for words, text in places.items()]
+        boxes = [(float(text.get("x")), float(text.get("y")), 3.5 * len(words)) for words, text in places.items()]
         self.assertEqual(len(boxes), 8)
+        left, top, right, bottom = draw.BOX
         for place, (x, y, half) in enumerate(boxes):
-            self.assertTrue(78 < x - half and x + half < 624 and 34 < y - 10 and y < 338)
+            self.assertTrue(left < x - half and x + half < right and top < y - 11 and y < bottom)
             for other_x, other_y, other_half in boxes[:place]:
                 self.assertTrue(abs(x - other_x) > half + other_half or abs(y - other_y) > 12)
 
@@ -484,7 +577,7 @@ class Drawing(unittest.TestCase):
 
     def test_an_active_row_without_boundary(self):
         drawn = picture([(math.nan, 1, 2), (1, 0, 1)], point(1, 2, "0 1 7"))
-        self.assertIn("row 0: nan x + 1 y <= 2", drawn.captions)
+        self.assertIn("row 0: nan x + 1 y \u2264 2", drawn.captions)
 
     def test_only_rows_without_boundary(self):
         drawn = picture([(math.nan, 1, 2), (0, 0, 1)] * 200, point(5, 7))
@@ -524,7 +617,8 @@ class Drawing(unittest.TestCase):
     def test_an_answer_a_little_off_the_rows_is_in_view(self):
         for x, y in [(0.5, 5.0), (4.0, -3.0)]:
             mark = picture(self.S5, point(x, y)).by_id["answer"]
-            self.assertTrue(78 < float(mark.get("cx")) < 624 and 34 < float(mark.get("cy")) < 338)
+            left, top, right, bottom = draw.BOX
+            self.assertTrue(left < float(mark.get("cx")) < right and top < float(mark.get("cy")) < bottom)
 
     def test_few_far_crossings_without_feasible_part(self):
         rows = [(0, 1, 1), (0, -1, -2), (1, 0, 1), (-1, 0, 0), (1, 1e-5, 1.5)]
@@ -558,6 +652,19 @@ class Drawing(unittest.TestCase):
                 for name in ("x", "y", "x1", "x2", "y1", "y2", "cx", "cy"):
                     self.assertTrue(-1 <= float(element.get(name, 0)) <= 641, numbers)
 
+    def test_no_text_is_clipped(self):
+        shares = {None: (0, 1), "middle": (0.5, 0.5), "end": (1, 0)}  # of a text, left and right of its place
+        long = point(-1.23456e-138, -6.54321e-201, f"- 1 {2**64 - 1}")
+        for rows, line in [(self.S3, point(1, 1, "0 1 7")), ([(0, 0, 1)] * 99 + [(1, 1, math.nan), (1e-300, 1, -1e300)], long), ([], "refused 10")]:
+            drawn = picture(rows, line)
+            width, height = float(drawn.root.get("width")), float(drawn.root.get("height"))
+            size = {element: above.get("font-size") for above in drawn.root.iter() for element in above}
+            for text in drawn.root.iter(f"{SPACE}text"):
+                letter = 0.6 * float(text.get("font-size") or size[text])
+                before, after = (share * letter * len(text.text) for share in shares[text.get("text-anchor")])
+                self.assertTrue(0 <= float(text.get("x")) - before and float(text.get("x")) + after <= width, text.text)
+                self.assertTrue(2 * letter <= float(text.get("y")) <= height - letter, text.text)
+
     def test_no_rows(self):
         drawn = picture([], "nothing - - 0")
         self.assertEqual(drawn.of_class("row"), [])
@@ -574,7 +681,7 @@ class Drawing(unittest.TestCase):
 
     def test_a_record_that_is_no_problem(self):
         for content, refusal in ((records.Raw(9, b"<&>"), 9), (records.Raw(1, b""), 10), (records.Tail(b"1"), 8)):
-            drawn = Svg(draw.draw(4, content, draw.read_answer(f"4 refused {refusal}")))
+            drawn = Svg(draw.draw(4, content, answers.read_line(f"4 refused {refusal}")[1]))
             self.assertIn("Record 4: not a problem", drawn.words())
             self.assertNotIn("feasible", drawn.by_id)
 
@@ -599,16 +706,50 @@ class Drawing(unittest.TestCase):
             self.assertEqual(sum(text.startswith("row ") for text in set(words)), 12 if count == 12 else 0)
 
     def test_every_record_of_the_stream(self):
-        stream, answers = stream_file("ROWRUN_RECORDS", "stdin"), stream_file("ROWRUN_ANSWERS", "stdout")
-        if stream is None or answers is None:
+        stream, printed = stream_file("ROWRUN_RECORDS", "stdin"), stream_file("ROWRUN_ANSWERS", "stdout")
+        if stream is None or printed is None:
             self.skipTest("there is no crates/rowrun/stdin with stdout, and the environment names no files")
-        lines = answers.read_bytes()
+        lines = printed.read_bytes()
         for number, content in enumerate(records.read_records(stream.read_bytes()), 1):
             with self.subTest(record=number):
-                answer = draw.find_answer(lines, "answers", number)
+                answer = answers.find_answer(lines, "answers", number)
                 drawn = Svg(draw.draw(number, content, answer))
                 marks = {"answer", "far-answer"} & set(drawn.by_id)
                 self.assertEqual(len(marks), answer.kind in ("point", "level", "across"))
+
+
+class Example(unittest.TestCase):
+    """tools/example.txt, its answer and its picture, docs/example.svg."""
+
+    def setUp(self):
+        self.text = (HERE / "example.txt").read_bytes()
+
+    def drawn(self):
+        problem = draw.find_record(self.text, "example.txt", 1, "text")
+        return draw.draw(1, problem, answers.find_answer(EXAMPLE_LINE.encode(), "answers", 1))
+
+    def test_the_picture_is_what_is_drawn_today(self):
+        kept = (ROOT / "docs" / "example.svg").read_text("utf-8")
+        self.assertEqual(kept, self.drawn(), "draw it again: tools/answer tools/example.txt docs/example.svg")
+
+    def test_the_picture_shows_everything(self):
+        drawn = Svg(self.drawn())
+        self.assertEqual(drawn.by_id["answer"].tag, SPACE + "circle")
+        self.assertIn("feasible", drawn.by_id)
+        self.assertEqual([element.get("id") for element in drawn.of_class("active")], ["row-5", "row-6"])
+        self.assertEqual(len(drawn.of_class("row")), 7)
+        self.assertEqual(drawn.captions[0], "point x = 1, y = 7; active rows 6 and 5; 28 readings")
+        self.assertIn("the points that meet every row", drawn.captions)
+
+    def test_rowrun_answers_so(self):
+        if not os.access(answer.PROGRAM, os.X_OK):
+            self.skipTest("there is no target/bin/rowrun")
+        try:
+            words = answer.way_to_run()
+        except answer.Failure as wrong:
+            self.skipTest(str(wrong))
+        done = subprocess.run(words, input=pack(self.text.decode()), stdout=subprocess.PIPE)
+        self.assertEqual((done.returncode, done.stdout.decode()), (0, f"{EXAMPLE_LINE}\nend 1\n"))
 
     def test_the_example_is_feasible_with_two_active_rows(self):
         problem = records.parse_text((HERE / "example.txt").read_bytes(), "example")[0]
@@ -619,6 +760,776 @@ class Drawing(unittest.TestCase):
         self.assertEqual([number for number, value in enumerate(excess) if value == 0], [5, 6])
         # Row 5 holds y down to the left of it, row 6 to the right.
         self.assertTrue(rows[5][0] < 0 < rows[6][0] and min(rows[5][1], rows[6][1]) > 0)
+
+
+class Versions(unittest.TestCase):
+    TOOLS = ["answer", "draw.py", "house", "records.py", "test_tools.py"]
+
+    def test_an_older_python_is_told_what_is_needed(self):
+        for name in self.TOOLS:
+            older = f"import runpy, sys; sys.version_info = (3, 7, 17); sys.argv = [{name!r}]; runpy.run_path({name!r}, run_name='__main__')"
+            done = subprocess.run([sys.executable, "-c", older], cwd=HERE, capture_output=True)
+            message = f"{name} needs Python 3.8 or newer, and this is Python 3.7\n"
+            self.assertEqual((done.returncode, done.stdout, done.stderr.decode()), (1, b"", message))
+
+    def test_each_head_says_what_is_needed(self):
+        for path in HERE.iterdir():
+            if path.suffix == ".py" or path.name in self.TOOLS:
+                self.assertIn("Python 3.8", path.read_text().partition("import")[0], path.name)
+
+
+class Words(unittest.TestCase):
+    def test_each_kind_of_line(self):
+        for line, wanted in [
+            ("point 3FF0000000000000 401C000000000000 6 5 28", "point x = 1, y = 7; active rows 6 and 5; 28 readings"),
+            (point(1, -2.5, "1 - 23"), "point x = 1, y = -2.5; first active row 1, no second; 23 readings"),
+            (point(1, -2.5, "- 1 23"), "point x = 1, y = -2.5; no first active row, second 1; 23 readings"),
+            (point(-0.0, math.inf), "point x = -0, y = infinity; no active rows; 7 readings"),
+            (point(-math.inf, 0.0), "point x = -infinity, y = 0; no active rows; 7 readings"),
+            (f"level {hexed(3)} - - 1", "level y = 3, x is open; no active rows; 1 reading"),
+            (f"across {hexed(-1e24)} 2 - 4", "across x = -1e24, y is open; first active row 2, no second; 4 readings"),
+            ("nothing - - 0", "nothing, neither x nor y; no active rows; 0 readings"),
+            ("refused 9", "refused 9: the kind of the record is not 1"),
+            ("refused 11", "refused 11: no meaning is known for this number"),
+        ]:
+            self.assertEqual(answers.say_answer(answers.read_line(f"1 {line}")[1]), wanted)
+
+    def test_numbers_keep_every_bit(self):
+        for number, wanted in [(0.1, "0.1"), (1e6, "1000000"), (1e16, "1e16"), (5e-324, "5e-324"), (-1e-7, "-1e-7"), (1 + 2**-52, "1.0000000000000002")]:
+            self.assertEqual(answers.exact(number), wanted)
+        source = random.Random(4)
+        for _ in range(2000):
+            number = struct.unpack("<d", source.getrandbits(64).to_bytes(8, "little"))[0]
+            if math.isfinite(number):
+                self.assertEqual(float(answers.exact(number)), number)
+
+    def test_every_refusal_has_its_own_meaning(self):
+        self.assertEqual(sorted(answers.REFUSALS), list(range(1, 11)))
+        self.assertEqual(len(set(answers.REFUSALS.values())), 10)
+
+    def test_whole_outputs(self):
+        self.assertEqual(answers.read_all(b"end 0\n", 0), [])
+        said = answers.read_all(SAMPLE_ANSWERS, 2)
+        self.assertEqual([(line[:7], answer.y) for line, answer in said], [("1 point", 1.0), ("2 point", 2.0)])
+
+    def test_outputs_with_something_missing(self):
+        first = "1 nothing - - 0"
+        for printed, count, wanted in [
+            (b"", 0, "the line 'end' is missing, the last one is ''"),
+            (b"end 0", 0, "the line 'end' is missing, the last one is 'end 0'"),
+            (b"1 nothing - - 0\n", 1, f"the line 'end' is missing, the last one is '{first}'"),
+            (b"1 nothing - - 0\nend", 1, "the line 'end' is missing, the last one is 'end'"),
+            (b"end 0\n", 1, "0 lines and then 'end 0', where the records are 1"),
+            (b"1 nothing - - 0\nend 2\n", 1, "1 lines and then 'end 2', where the records are 1"),
+            (b"1 nothing - - 0\nend 1\n", 2, "1 lines and then 'end 1', where the records are 2"),
+            (b"2 nothing - - 0\nend 1\n", 1, "line 1 is about record 2"),
+            (b"1 nothing - -\nend 1\n", 1, "not a line of rowrun: '1 nothing - -'"),
+            (b"1 nothing - - 0\r\nend 1\n", 1, "not a line of rowrun: '1 nothing - - 0\r'"),
+            (b"1 \xff\nend 1\n", 1, "not a line of rowrun: '1 \\xff'"),
+            (b"1 level 7FF8000000000000 - - 1\nend 1\n", 1, "a coordinate is NaN"),
+        ]:
+            with self.subTest(printed=printed), self.assertRaises(ValueError) as caught:
+                answers.read_all(printed, count)
+            self.assertEqual(str(caught.exception), wanted)
+
+
+class Answering(unittest.TestCase):
+    """tools/answer in a repository of its own, with scripts in place of rt and rowrun."""
+
+    def setUp(self):
+        directory = tempfile.TemporaryDirectory()
+        self.addCleanup(directory.cleanup)
+        self.root = pathlib.Path(directory.name)
+        shutil.copytree(HERE, self.root / "tools", ignore=shutil.ignore_patterns("__pycache__"))
+        self.rowrun = self.root / "target" / "bin" / "rowrun"
+        self.picture = self.root / "picture.svg"
+        self.problem = self.root / "tools" / "example.txt"
+        # On another processor than x86-64 rowrun is run by the kit's emulator, for which a script stands in as well.
+        kit = self.root / "kit" / "on" / os.uname().machine / "toolchain"
+        self.script(kit / "bin" / "qemu-x86_64", 'shift 3\nexec "$@"')
+        self.system = os.pathsep.join(["/usr/bin", "/bin"])
+        self.path = os.pathsep.join([str(self.root / "bin"), self.system])
+        self.prints(f"{EXAMPLE_LINE}\nend 1")
+        self.script(self.root / "bin" / "rt", "echo the noise of rt; echo the errors of rt >&2")
+
+    def script(self, path, words):
+        path.parent.mkdir(parents=True, exist_ok=True)
+        path.write_text(f"#!/bin/sh\n{words}\n")
+        path.chmod(0o755)
+
+    def prints(self, words, more=""):
+        """Has the stand-in of rowrun read everything and print this."""
+        self.script(self.rowrun, f"cat >/dev/null\ncat <<'END'\n{words}\nEND\n{more}")
+
+    def text(self, content):
+        path = self.root / "problem.txt"
+        path.write_text(content)
+        return path
+
+    def answer(self, *arguments, path=None, **streams):
+        environment = dict(os.environ, PATH=path or self.path, RATTLE_HOME=str(self.root / "kit"))
+        words = [sys.executable, str(self.root / "tools" / "answer"), *map(str, arguments)]
+        streams = {"stdin": subprocess.DEVNULL, "stdout": subprocess.PIPE, **streams}
+        done = subprocess.run(words, stderr=subprocess.PIPE, env=environment, cwd="/", **streams)
+        return done.returncode, (done.stdout or b"").decode(), done.stderr.decode()
+
+    def test_the_problem_its_line_and_the_words(self):
+        status, said, wrong = self.answer(self.problem, self.picture)
+        words = "  point x = 1, y = 7; active rows 6 and 5; 28 readings"
+        self.assertEqual(said, f"{self.problem.read_text()}\n{EXAMPLE_LINE}\n{words}\nend 1\ndrawn in {self.picture}\n")
+        self.assertEqual((status, wrong), (0, ""))
+        self.assertIn("answer", Svg(self.picture.read_text()).by_id)
+
+    def test_every_line_has_its_words(self):
+        self.prints(SAMPLE_ANSWERS.decode().rstrip())
+        status, said, _ = self.answer(self.root / "tools" / "sample.txt")
+        self.assertEqual((status, said.splitlines()[-1]), (0, "end 2"))
+        self.assertEqual(said.splitlines()[-4], "  point x = 1, y = 1; active rows 0 and 1; 7 readings")
+        self.assertEqual(said.splitlines()[-2], "  point x = 0, y = 2; first active row 1, no second; 23 readings")
+
+    def test_a_text_that_does_not_pack(self):
+        self.prints("end 0")
+        problem = self.text("lp\n1 2\n")
+        message = f"{problem}:2: a row is three numbers a b c, here stand 2\n"
+        self.assertEqual(self.answer(problem), (2, "", message))
+
+    def test_a_missing_problem(self):
+        self.assertEqual(self.answer(self.root / "none"), (2, "", f"{self.root / 'none'}: No such file or directory\n"))
+
+    def test_a_text_without_record(self):
+        self.prints("end 0")
+        problem = self.text("# nothing\n")
+        self.assertEqual(self.answer(problem), (0, "# nothing\n\nend 0\n", f"{problem}: it holds no record\n"))
+
+    def test_standard_input(self):
+        with open(self.problem, "rb") as given:
+            status, said, _ = self.answer("-", stdin=given)
+        self.assertEqual((status, said.splitlines()[-1]), (0, "end 1"))
+
+    def test_a_picture_that_cannot_be_drawn_stays(self):
+        self.picture.write_text("an older picture")
+        self.prints("1 nothing 7 - 0\nend 1")  # there is no row 7
+        status, said, wrong = self.answer(self.problem, self.picture)
+        self.assertEqual((status, said.splitlines()[-1]), (1, "end 1"))
+        self.assertEqual(wrong, f"{self.picture} is not drawn: the answer names a row that record 1 does not have\n")
+        self.assertEqual(self.picture.read_text(), "an older picture")
+        self.assertFalse(list(self.root.glob("picture.svg?*")))
+
+    def test_a_picture_that_nothing_is_drawn_for_stays(self):
+        self.picture.write_text("an older picture")
+        self.prints("end 0")
+        status, _, wrong = self.answer(self.text(""), self.picture)
+        self.assertEqual((status, self.picture.read_text()), (1, "an older picture"))
+        self.assertIn(f"{self.picture} is not drawn: there is no record to draw\n", wrong)
+
+    def test_a_picture_that_cannot_be_written(self):
+        for place, why in [(self.root / "no" / "folder", "No such file or directory"), (self.root, "Is a directory")]:
+            status, said, wrong = self.answer(self.problem, place)
+            self.assertEqual((status, said.splitlines()[-1], wrong), (1, "end 1", f"{place} is not drawn: {why}\n"))
+
+    def test_a_picture_keeps_its_link_and_its_mode(self):
+        self.picture.write_text("an older picture")
+        self.picture.chmod(0o640)
+        link = self.root / "link.svg"
+        link.symlink_to(self.picture)
+        self.assertEqual(self.answer(self.problem, link)[0], 0)
+        self.assertTrue(link.is_symlink() and self.picture.read_text().startswith("<?xml"))
+        self.assertEqual(stat.S_IMODE(self.picture.stat().st_mode), 0o640)
+
+    def test_a_picture_into_a_pipe(self):
+        status, said, _ = self.answer(self.problem, "/dev/stdout")
+        self.assertEqual(status, 0)
+        self.assertIn("</svg>", said)
+        self.assertTrue(stat.S_ISLNK(os.lstat("/dev/stdout").st_mode))
+
+    def test_the_problem_is_not_drawn_over(self):
+        problem = self.text("lp\n1 1 2\n")
+        self.assertEqual(self.answer(problem, problem), (1, "", f"{problem} is the problem itself, and no picture is drawn over it\n"))
+        self.assertEqual(problem.read_text(), "lp\n1 1 2\n")
+
+    def test_rt_decides_whether_the_program_is_old(self):
+        newer = self.root / "newer"
+        self.script(newer, "cat >/dev/null\necho 1 nothing - - 3\necho end 1")
+        self.script(self.root / "bin" / "rt", f'echo "$PWD $*" >"{self.root}/asked"; cp "{newer}" target/bin/rowrun; echo noise; echo noise >&2')
+        status, said, wrong = self.answer(self.problem)
+        self.assertEqual((status, said.splitlines()[-3], wrong), (0, "1 nothing - - 3", ""))
+        self.assertNotIn("noise", said)
+        self.assertEqual((self.root / "asked").read_text(), f"{self.root.resolve()} check rowrun\n")
+
+    def test_a_program_that_is_not_proved_is_not_used(self):
+        self.script(self.root / "bin" / "rt", "echo rt: rowrun NOT PROVED; exit 3")
+        status, said, wrong = self.answer(self.problem, self.picture)
+        self.assertEqual((status, said), (1, ""))
+        self.assertEqual(wrong, "rt: rowrun NOT PROVED\nrt check rowrun ended with status 3, and rowrun is not used\n")
+        self.assertFalse(self.picture.exists())
+
+    def test_a_program_that_went_missing_is_built_again(self):
+        self.rowrun.rename(self.root / "kept")
+        stamp = self.root / "target" / "stamp" / "rowrun"
+        stamp.parent.mkdir()
+        stamp.write_text("unchanged")
+        self.script(self.root / "bin" / "rt", f'[ -f target/stamp/rowrun ] || cp "{self.root}/kept" target/bin/rowrun')
+        self.assertEqual(self.answer(self.problem)[0], 0)
+
+    def test_rt_that_builds_nothing(self):
+        self.rowrun.unlink()
+        self.script(self.root / "bin" / "rt", "echo ok")
+        self.assertEqual(self.answer(self.problem), (1, "", "ok\nrt check rowrun left no target/bin/rowrun\n"))
+
+    def test_without_rt(self):
+        if shutil.which("rt", path=self.system):
+            self.skipTest("rt stands among the commands of the system")
+        status, said, wrong = self.answer(self.problem, path=self.system)
+        self.assertEqual((status, said.splitlines()[-1]), (0, "end 1"))
+        self.assertEqual(wrong, "there is no rt on PATH: target/bin/rowrun is used as it stands, and may be older than its sources\n")
+        self.rowrun.unlink()
+        status, said, wrong = self.answer(self.problem, path=self.system)
+        message = "there is no target/bin/rowrun, and no rt on PATH to prove and build it: the Rattle kit has it\n"
+        self.assertEqual((status, said, wrong), (1, "", message))
+
+    def test_whoever_waits_is_told_why(self):
+        place = self.root / "tools" / "answer"
+        place.write_text(place.read_text().replace("\nSOON = 5", "\nSOON = 0.1"))
+        self.script(self.root / "bin" / "rt", "sleep 0.5")
+        status, said, wrong = self.answer(self.problem)
+        self.assertEqual((status, said.splitlines()[-1]), (0, "end 1"))
+        self.assertEqual(wrong, "rt is proving and building rowrun, which may take some minutes\n")
+
+    def test_a_missing_end(self):
+        self.prints(EXAMPLE_LINE)
+        status, said, wrong = self.answer(self.problem, self.picture)
+        self.assertEqual((status, said), (1, ""))
+        self.assertEqual(wrong, f"rowrun printed something wrong: the line 'end' is missing, the last one is '{EXAMPLE_LINE}'\n")
+        self.assertFalse(self.picture.exists())
+
+    def test_lines_for_other_records(self):
+        self.prints("end 0")
+        status, said, wrong = self.answer(self.problem)
+        self.assertEqual((status, said), (1, ""))
+        self.assertEqual(wrong, "rowrun printed something wrong: 0 lines and then 'end 0', where the records are 1\n")
+
+    def test_records_that_stand_in_a_tail(self):
+        self.prints("1 refused 9\n2 refused 9\nend 2")
+        problem = self.text("tail " + "000000000000" * 2)
+        self.assertEqual(self.answer(problem)[0], 0)
+
+    def test_a_program_that_fails(self):
+        self.prints(f"{EXAMPLE_LINE}\nend 1", "exit 7")
+        self.assertEqual(self.answer(self.problem), (1, "", "rowrun ended with status 7\n"))
+        self.rowrun.write_text("#!/no/such/interpreter\n")
+        status, said, wrong = self.answer(self.problem)
+        self.assertEqual((status, said), (1, ""))
+        self.assertNotEqual(wrong, "")
+
+    def test_a_program_that_reads_nothing(self):
+        self.script(self.rowrun, f"exec <&-\necho {EXAMPLE_LINE}\necho end 1")
+        problem = self.text("lp\n" + "1 2 3\n" * 20000)  # more than a pipe holds
+        self.assertEqual(self.answer(problem)[0], 0)
+
+    def test_closed_output(self):
+        reader, writer = os.pipe()
+        os.close(reader)
+        status, _, wrong = self.answer(self.problem, self.picture, stdout=writer)
+        os.close(writer)
+        self.assertEqual((status, wrong), (1, ""))
+        self.assertTrue(self.picture.exists())
+
+    def test_output_that_cannot_be_written(self):
+        with open("/dev/full", "wb") as full:
+            self.assertEqual(self.answer(self.problem, stdout=full), (1, "", "standard output: No space left on device\n"))
+
+
+class House(unittest.TestCase):
+    """The rules of the repository, on a small one in which nothing breaks them."""
+
+    LAWS = """-- What adding does.
+use mathlib.Core.Path.{_≡_, refl, ap as by}
+use Rattle.base.specs.Sums.{_⊞_, twice, if_then_else_}
+use Rattle.base.proofs.Tools as tools
+
+pub zero-left : (n : ℕ) → zero ⊞ n ≡ n
+zero-left zero = refl
+zero-left (suc n) = by suc (zero-left n)
+
+pub right {ℓ} : (n : ℕ) → if n then n else tools.step n ≡ twice n
+unfolding twice
+right n = zero-left n
+"""
+    SUMS = """-- Sums. Assumes nothing.
+use Prim.Native.Nat.{ℕ, _+_}
+
+unfoldable pub _⊞_ : ℕ → ℕ → ℕ
+_⊞_ a b = a + b
+"""
+    CODE = """// Adds two numbers.
+ghost use mathlib.Core.Path.{_≡_};
+use base::Number;
+
+pub fn add(a: u64, b: u64) -> u64
+    ensures { λ r. ⌜ r ≡ a ⌝ }
+{
+    a + b
+}
+"""
+    EDIT = "file: src/lib.rt\nold:     a + b\nnew:     a - b\n"
+    PROMISED = """# Promises
+
+| Promise | Kept by | Guarded by |
+|---|---|---|
+| It adds, and/or stops | base/Laws: `right`; `base/proofs/Laws.antt` | base/minus |
+"""
+
+    def setUp(self):
+        directory = tempfile.TemporaryDirectory()
+        self.addCleanup(directory.cleanup)
+        self.root = pathlib.Path(directory.name)
+        self.put("crates/base/src/lib.rt", self.CODE)
+        self.put("crates/base/specs/Lib.antt", "pub mod Sums\n")
+        self.put("crates/base/specs/Sums.antt", self.SUMS)
+        self.put("crates/base/proofs/Lib.antt", "pub mod Laws\npub mod Tools\n")
+        self.put("crates/base/proofs/Laws.antt", self.LAWS)
+        self.put("crates/base/proofs/Tools.antt", "-- A step.\npub step : ℕ → ℕ\nstep n = n\n")
+        self.put("crates/base/must-fail/minus.edit", self.EDIT)
+        self.put("docs/PROMISES.md", self.PROMISED)
+
+    def put(self, name, text):
+        path = self.root / name
+        path.parent.mkdir(parents=True, exist_ok=True)
+        path.write_bytes(text if isinstance(text, bytes) else text.encode())
+
+    def change(self, name, old, new):
+        text = (self.root / name).read_text("utf-8")
+        self.assertIn(old, text)
+        self.put(name, text.replace(old, new))
+
+    def assert_found(self, *wanted):
+        self.assertEqual([str(found) for found in house.findings(self.root)], list(wanted))
+
+    def test_nothing_is_found(self):
+        self.assert_found()
+
+    def test_long_lines(self):
+        self.put("crates/base/specs/Sums.antt", self.SUMS + "-- " + "ℕ" * 157 + "\n")  # 160 characters in 474 bytes
+        self.assert_found()
+        self.put("crates/base/specs/Sums.antt", self.SUMS + "-- " + "ℕ" * 158 + "\n")
+        self.put("crates/base/notes.txt", "a" * 200)
+        for data in ("stdin", "stdout", "args", "data/deep/file", "must-fail/README"):
+            self.put(f"crates/base/{data}", "a" * 200)
+        self.assert_found(
+            "crates/base/notes.txt:1: 200 characters, and 160 are the most",
+            "crates/base/specs/Sums.antt:6: 161 characters, and 160 are the most",
+        )
+
+    def test_bytes_that_are_no_text(self):
+        self.put("crates/base/notes.txt", b"fine\n\xff\n")
+        self.assert_found("crates/base/notes.txt:2: not text in UTF-8")
+
+    def test_files_without_opening(self):
+        wanted = "does not open with a comment that says what it is for"
+        for name, text in [("src/lib.rt", self.CODE), ("specs/Sums.antt", self.SUMS)]:
+            for opening in ("", "--\n", "\n"):
+                self.put(f"crates/base/{name}", opening + text.partition("\n")[2])
+                self.assert_found(f"crates/base/{name}:1: {wanted}")
+            self.put(f"crates/base/{name}", text)
+        self.put("crates/base/src/lib.rt", "//! Adds.\n" + self.CODE.partition("\n")[2])
+        self.assert_found()
+
+    def test_a_list_of_modules_needs_no_opening(self):
+        self.put("crates/base/specs/Lib.antt", "pub mod Sums\n-- a remark\npub mod More\n")
+        self.assert_found()
+        self.put("crates/base/specs/Lib.antt", "pub mod Sums\n\npub one : ℕ\none = 1\n")
+        self.put("crates/base/specs/Other.antt", "pub mod Sums\n")
+        wanted = "does not open with a comment that says what it is for"
+        self.assert_found(f"crates/base/specs/Lib.antt:1: {wanted}", f"crates/base/specs/Other.antt:1: {wanted}")
+
+    def unused(self, use, body, language="antt"):
+        """The names that a file with this `use` line and this body brings in and does not use."""
+        source = house.Source(f"crates/base/specs/A.{language}", f"-- A.\n{use}\n\n{body}\n" if language == "antt" else f"// A.\n{use}\n{body}\n")
+        return [found.name for found in source.imports if not source.uses(found.name)]
+
+    def test_names_that_are_not_used(self):
+        for use, body, wanted in [
+            ("use M.{a, b}", "f = a", ["b"]),
+            ("use M.{a, b}", "f = a-b", ["a", "b"]),
+            ("use M.{a}", "f : A\nunfolding a\nf = refl", []),
+            ("use M.{a}", "f = b -- a", ["a"]),
+            ("use M.{a}", "{- a {- a -} a -} f = b", ["a"]),
+            ("use M.{a}", "-- {-\nf = a -- -}", []),
+            ("use M.{a}", 'f = "a"', ["a"]),
+            ("use M.{a}", "f = r .a", ["a"]),
+            ("use M.{a}", "f = r.a", ["a"]),
+            ("use M.{a}", "f = a.b", []),
+            ("use M.{a}", "f = λ x. a", []),
+            ("use M.{a}", "f (a, b) = x@a", []),
+            ("use M.{a as b}", "f = a", ["b"]),
+            ("use M.{a as b}", "f = b", []),
+            ("use M.{N.d}", "f = d", []),
+            ("use M.{N.d, N.e}", "f = d", ["e"]),
+            ("use M.{\n    a,\n    b}", "f = b", ["a"]),
+            ("use M.N", "f = N.a", []),
+            ("use M.N", "f = M.a", ["N"]),
+            ("use M.N as O", "f = O.a", []),
+            ("use M.N as O", "f = N.a", ["O"]),
+            ("use M.T.the-variants.{Left, Right}", "f Left = Right", []),
+            ("use M.T.the-variants as is", "f is.Left = b", []),
+            ("pub use M.{a}", "f = b", ["a"]),  # passed on, which the rule lets be
+        ]:
+            with self.subTest(use=use, body=body):
+                self.assertEqual(self.unused(use, body), wanted)
+
+    def test_operators_that_are_not_used(self):
+        for use, body, wanted in [
+            ("use M.{_≡_, _≤_}", "f : a ≡ b", ["_≤_"]),
+            ("use M.{_+_, _-_}", "f = map (_+ 1) (map (1 -_) xs)", []),
+            ("use M.{_+_, _-_}", "f = fold _+_ xs", ["_-_"]),
+            ("use M.{¬_}", "f : ¬ A", []),
+            ("use M.{if_then_else_}", "f = if a then b else c", []),
+            ("use M.{if_then_else_}", "f = if a then b", ["if_then_else_"]),
+            ("use M.{if_then_else_}", "f : A\nunfolding if_then_else_", []),
+            ("use M.{[], _∷_}", "f = 1 ∷ []", []),
+            ("use M.{[] as none, _∷_ as _then_}", "f = 1 then none", []),
+            ("use M.{[], _∷_}", "f = elim x [ a ↦ b | c ↦ d ]", ["[]", "_∷_"]),
+            ("use M.{∥_∥₁}", "f : ∥ A ∥₁", []),
+            ("use M.{_>>=_, _>>_}", "f = do\n  x ← m\n  n", []),
+            ("use M.{_>>=_, _>>_}", "f = m", ["_>>=_", "_>>_"]),
+            ("use M.{«in»}", "f = «in»", []),
+        ]:
+            with self.subTest(use=use, body=body):
+                self.assertEqual(self.unused(use, body), wanted)
+
+    def test_ghosts_that_are_not_used(self):
+        for use, body, wanted in [
+            ("ghost use M.{_≡_, length};", "ensures { λ r. ⌜ r ≡ 1 ⌝ }", ["length"]),
+            ("ghost use M as ghost;", "ensures { ⌜ ghost.a ⌝ }", []),
+            ("ghost use M.{a};", "// a", ["a"]),
+            ("ghost use M.{a};", "let q = b'\"'; a", []),
+            ("use m::Thing;", "f()", []),
+        ]:
+            with self.subTest(use=use, body=body):
+                self.assertEqual(self.unused(use, body, "rt"), wanted)
+
+    def test_an_unused_name_is_found_where_it_stands(self):
+        self.change("crates/base/proofs/Laws.antt", "{_≡_, refl,", "{_≡_,\n    sym, refl,")
+        self.change("crates/base/src/lib.rt", "{_≡_}", "{_≡_, true}")
+        self.assert_found(
+            "crates/base/proofs/Laws.antt:3: `sym` is brought in and not used", "crates/base/src/lib.rt:2: `true` is brought in and not used"
+        )
+        self.change("crates/base/proofs/Laws.antt", "use mathlib", "pub use mathlib")
+        self.assert_found("crates/base/src/lib.rt:2: `true` is brought in and not used")
+
+    def laws(self, text):
+        return [(law.name, law.line) for law in house.Source("crates/base/proofs/A.antt", text).laws()]
+
+    def test_which_names_are_laws(self):
+        text = """-- Laws.
+pub use M.{x}
+pub mod N
+pub a : A
+a = b
+
+hidden : A
+hidden = b
+
+abbrev pub b : A
+unfoldable pub c {ℓ} : A
+unfoldable abbrev pub _≼_ : A
+axiom pub d : A
+
+module _ (n : ℕ) where
+  pub e : A
+  e = b
+
+  module _ (m : ℕ) where
+    pub f : A
+
+pub record R (n : ℕ) : Type 0 where
+  pub g : A
+
+pub data D : Type 0 where
+  h : D
+
+module _ where
+  pub record S : Type 0 where
+    pub i : A
+
+  pub j : A
+pub ruleset k
+mutual
+  pub l : A
+pub m :
+    A → B
+"""
+        names = [("a", 4), ("b", 10), ("c", 11), ("_≼_", 12), ("d", 13), ("e", 16), ("f", 20), ("R", 22), ("D", 25), ("S", 29), ("j", 32), ("l", 35), ("m", 36)]
+        self.assertEqual(self.laws(text), names)
+
+    def test_laws_that_nobody_uses(self):
+        unused = "nothing uses `spare`, and docs/PROMISES.md does not name it"
+        for more in [
+            "pub spare : ℕ\nspare = 1\n",
+            "pub spare : ℕ → ℕ\nunfolding twice\nspare zero = zero\nspare (suc n) = spare n\n",
+            "pub spare : ℕ\nspare = 1\n\nother : ℕ\nother = r .spare -- spare\n",
+            "pub spare {ℓ} : ℕ\nspare = 1\n  where\n    help : ℕ\n    help = spare\n",
+        ]:
+            self.put("crates/base/proofs/Laws.antt", self.LAWS + "\n" + more)
+            self.assert_found(f"crates/base/proofs/Laws.antt:14: {unused}")
+
+    def test_laws_that_are_used(self):
+        spare = self.LAWS + "\nmodule _ (n : ℕ) where\n  abbrev pub spare : ℕ\n  spare = n\n"
+        for more in ["\nother : ℕ\nother = spare 1\n", "\n  other : ℕ\n  other = spare\n", "\nother : A\nunfolding spare\nother = refl\n"]:
+            self.put("crates/base/proofs/Laws.antt", spare + more)
+            self.assert_found()
+        self.put("crates/base/proofs/Laws.antt", spare)
+        for other in [
+            "use Rattle.base.proofs.Laws.{spare}\nf = spare",
+            "use Rattle.base.proofs.Laws.{spare as s}\nf = s",
+            "use Rattle.base.proofs.Laws as laws\nf = laws.spare",
+            "use Rattle.base.proofs\nf = proofs.Laws.spare",
+            "use Rattle.base.proofs as p\nuse p.Laws.{spare}\nf = spare",
+            "f = Rattle.base.proofs.Laws.spare",
+            "f = package.Rattle.base.proofs.Laws.spare",
+            "pub use Rattle.base.proofs.Laws.{spare}",
+        ]:
+            self.put("crates/over/specs/Over.antt", f"-- Over it.\n{other}\n")
+            self.assert_found()
+        self.put("crates/over/specs/Over.antt", "-- Over it.\n")
+        self.put("crates/base/proofs/add/Proof.antt", "-- `add`.\nuse Rattle.base.proofs.Laws.{spare}\nf = spare\n")
+        self.assert_found()
+        self.put("crates/base/proofs/add/Proof.antt", "-- `add`.\n")
+        self.put("crates/over/src/lib.rt", "// Over it.\nghost use Rattle.base.proofs.Laws.{spare};\n// ..\nensures { ⌜ spare ⌝ }\n")
+        self.assert_found()
+
+    def test_a_law_of_the_same_name_is_another(self):
+        self.put("crates/base/proofs/Laws.antt", self.LAWS + "\npub spare : ℕ\nspare = 1\n")
+        unused = "crates/base/proofs/Laws.antt:14: nothing uses `spare`, and docs/PROMISES.md does not name it"
+        for other in ["use Rattle.far.proofs.Laws.{spare}\nf = spare", "spare : ℕ\nspare = 1", "use Rattle.base.proofs.Tools as t\nf = t.spare"]:
+            self.put("crates/over/specs/Over.antt", f"-- Over it.\n{other}\n")
+            self.assert_found(unused)
+        # One that is brought in and not used has no user in that.
+        self.put("crates/over/specs/Over.antt", "-- Over it.\nuse Rattle.base.proofs.Laws.{spare}\n")
+        self.assert_found(unused, "crates/over/specs/Over.antt:2: `spare` is brought in and not used")
+
+    def test_laws_that_are_promised(self):
+        self.put("crates/base/proofs/Laws.antt", self.LAWS + "\npub spare : ℕ\nspare = 1\n")
+        unused = "crates/base/proofs/Laws.antt:14: nothing uses `spare`, and docs/PROMISES.md does not name it"
+        for promise, wanted in [
+            ("base/Laws: `spare`", []),
+            ("see `base/Laws.spare`", []),
+            ("`other`, `spare`", []),
+            ("base/Laws", []),
+            ("base/Laws; `other`", []),
+            ("`Laws.antt` of `base`", []),
+            ("spare", [unused]),
+            ("`spare-one`", [unused]),
+            ("base/Laws: `other`", [unused]),
+            ("base/Tools", [unused]),
+            ("`base/proofs/Laws.antt`", [unused]),
+        ]:
+            with self.subTest(promise=promise):
+                self.put("docs/PROMISES.md", f"{self.PROMISED}| More | {promise} | base/minus |\n")
+                self.assert_found(*wanted)
+
+    def test_edits_that_no_promise_names(self):
+        self.put("crates/base/must-fail/times.edit", self.EDIT)
+        missing = "crates/base/must-fail/times.edit:1: docs/PROMISES.md does not name base/times"
+        for promise, wanted in [
+            ("base/minus", [missing]),
+            ("base/timesless", [missing, "docs/PROMISES.md:6: base/timesless is no must-fail edit, and no file of definitions or proofs"]),
+            ("far/base/times", [missing]),
+            ("base/minus, base/times", []),
+            ("`base/times`", []),
+            ("as base/times.", []),
+        ]:
+            with self.subTest(promise=promise):
+                self.put("docs/PROMISES.md", f"{self.PROMISED}| More | | {promise} |\n")
+                self.assert_found(*wanted)
+        (self.root / "docs" / "PROMISES.md").unlink()
+        found = [str(finding) for finding in house.findings(self.root)]
+        self.assertIn(missing, found)
+
+    def test_promises_of_edits_that_are_not_there(self):
+        wrong = "is no must-fail edit, and no file of definitions or proofs"
+        for line, wanted in [
+            ("| It adds | | base/plus |", ["base/plus"]),
+            ("| It adds | base/plus | base/minus |", ["base/plus"]),
+            ("In words: base/plus.", ["base/plus"]),
+            ("| It adds | | bass/minus, or none |", ["bass/minus"]),
+            ("| It adds and/or stops | in/out | there is none |", []),
+            ("In words: and/or, `base/src`, base/specs, base/Sums, base/proofs/Laws.antt, https://base/one.", []),
+        ]:
+            with self.subTest(line=line):
+                self.put("docs/PROMISES.md", f"{self.PROMISED}{line}\n")
+                self.assert_found(*(f"docs/PROMISES.md:6: {name} {wrong}" for name in wanted))
+
+    def test_edits_that_do_not_fit_their_file(self):
+        edit = "crates/base/must-fail/minus.edit"
+        times = "times, and must stand there once"
+        for text, wanted in [
+            ("file: src/lib.rt\nold:     a * b\nnew:     a - b\n", [f"2: its `old:` text stands in crates/base/src/lib.rt 0 {times}"]),
+            ("file: src/lib.rt\nold: a\nnew: b\n", [f"2: its `old:` text stands in crates/base/src/lib.rt 7 {times}"]),
+            ("file: src/none.rt\nold: a\nnew: b\n", ["1: there is no crates/base/src/none.rt to change"]),
+            ("file: ../base/src/lib.rt\nold: a\nnew: b\n", ["1: there is no crates/base/../base/src/lib.rt to change"]),
+            ("file: must-fail/minus.edit\nold: a\nnew: b\n", ["1: there is no crates/base/must-fail/minus.edit to change"]),
+            ("old: a + b\nnew: b\n", ["1: it has no `file:`, `old:` and `new:` lines"]),
+            ("file: src/lib.rt\nold: a + b\n", ["1: it has no `file:`, `old:` and `new:` lines"]),
+            ("", ["1: it has no `file:`, `old:` and `new:` lines"]),
+            # A remark, and a second change of the same file, which is as the first left it.
+            ("# a remark\nfile: src/lib.rt\nold: a + b\nnew: c + d\nold: c + d\nnew: a\n", []),
+            ("file: src/lib.rt\nold: a + b\nnew: c\nold: a + b\nnew: a\n", [f"4: its `old:` text stands in crates/base/src/lib.rt 0 {times}"]),
+            ("file: src/lib.rt\nold: a + b\nnew:\nfile: specs/Sums.antt\nold: a + b\nnew: a\n", []),
+        ]:
+            with self.subTest(text=text):
+                self.put(edit, text)
+                self.assert_found(*(f"{edit}:{line}" for line in wanted))
+
+    def test_the_command(self):
+        for path in HERE.iterdir():
+            if path.is_file():
+                self.put(f"tools/{path.name}", path.read_bytes())
+
+        def run_here():
+            done = subprocess.run([sys.executable, str(self.root / "tools" / "house")], capture_output=True, cwd="/")
+            return done.returncode, done.stdout.decode(), done.stderr.decode()
+
+        self.assertEqual(run_here(), (0, "", ""))
+        self.put("crates/base/must-fail/other.edit", self.EDIT)
+        self.assertEqual(run_here(), (1, "crates/base/must-fail/other.edit:1: docs/PROMISES.md does not name base/other\n", ""))
+        shutil.rmtree(self.root / "crates")
+        self.assertEqual(run_here(), (2, "", f"{self.root.resolve() / 'crates'}: No such file or directory\n"))
+
+
+class Gate(unittest.TestCase):
+    """.ci/run in a repository of its own, with scripts in place of rt and of what it runs."""
+
+    TALLY = "216 passed, 0 failed"
+
+    def setUp(self):
+        directory = tempfile.TemporaryDirectory()
+        self.addCleanup(directory.cleanup)
+        self.root = pathlib.Path(directory.name)
+        self.script("bin/python3", f'exec "{sys.executable}" "$@"')
+        self.rt()
+        self.script("tools/house", "echo house >>ran")
+        self.script("bindings/run", 'echo "bindings $*" >>ran; echo 5 parts passed, 0 failed')
+        self.write_test("pass")
+        (self.root / ".ci").mkdir()
+        shutil.copy(ROOT / ".ci" / "run", self.root / ".ci" / "run")
+
+    def script(self, name, words):
+        path = self.root / name
+        path.parent.mkdir(exist_ok=True)
+        path.write_text(f"#!/bin/sh\n{words}\n")
+        path.chmod(0o755)
+
+    def rt(self, fmt="exit 0", ci=f"echo rt: ok; echo {TALLY}"):
+        """The stand-in of rt, which removes target/ as the real one does."""
+        self.script("bin/rt", f"echo \"rt $*\" >>ran\ncase $1 in\nfmt) {fmt} ;;\nci) rm -rf target; mkdir target; {ci} ;;\nesac")
+
+    def write_test(self, words):
+        text = f"import unittest\n\nclass One(unittest.TestCase):\n    def test_one(self):\n        open('ran', 'a').write('tests\\n'); {words}\n"
+        (self.root / "tools" / "test_one.py").write_text(text)
+
+    def gate(self, cwd="/", **more):
+        """The gate's exit status, what it printed, on both streams, and which parts it ran."""
+        path = os.pathsep.join([str(self.root / "bin"), "/usr/bin", "/bin"])
+        options = {"stdin": subprocess.DEVNULL, "cwd": cwd, "env": {"PATH": path, "CI": "true", "PYTHONDONTWRITEBYTECODE": "1"}, **more}
+        words = [str(self.root / ".ci" / "run")] if cwd == "/" else ["/bin/sh", ".ci/run"]
+        done = subprocess.run(words, stdout=subprocess.PIPE, stderr=subprocess.STDOUT, **options)
+        ran = (self.root / "ran").read_text().splitlines() if (self.root / "ran").exists() else []
+        return done.returncode, done.stdout.decode(), ran
+
+    ALL = ["rt fmt --check", "house", "tests", "rt ci", "bindings "]
+
+    def assert_fails(self, status, last, parts):
+        found, said, ran = self.gate()
+        self.assertEqual((found, said.splitlines()[-1], ran), (status, last, self.ALL[:parts]), said)
+
+    def test_all_pass(self):
+        status, said, ran = self.gate()
+        self.assertEqual((status, said.splitlines()[-1], ran), (0, self.TALLY, self.ALL), said)
+        self.assertEqual((self.root / "target" / "rt-ci.txt").read_text(), f"rt: ok\n{self.TALLY}\n")
+
+    def test_from_its_own_folder_and_with_a_search_path_for_cd(self):
+        os.makedirs(self.root / "elsewhere" / ".ci")
+        for more in ({}, {"env": dict(os.environ, PATH=f"{self.root / 'bin'}:/usr/bin:/bin", CDPATH=str(self.root / "elsewhere"))}):
+            status, said, _ = self.gate(cwd=self.root, **more)
+            self.assertEqual((status, said.splitlines()[-1]), (0, self.TALLY), said)
+
+    def test_closed_input(self):
+        self.rt(ci=f"cat; echo {self.TALLY}")
+        status, said, _ = self.gate(stdin=None, preexec_fn=lambda: os.close(0))
+        self.assertEqual((status, said.splitlines()[-1]), (0, self.TALLY), said)
+
+    def test_input_is_left_alone(self):
+        self.rt(ci=f"cat; echo {self.TALLY}")
+        reader, writer = os.pipe()  # which never ends
+        status, said, _ = self.gate(stdin=reader, timeout=60)
+        os.close(reader)
+        os.close(writer)
+        self.assertEqual((status, said.splitlines()[-1]), (0, self.TALLY), said)
+
+    def test_the_layout_fails(self):
+        self.rt(fmt="echo not in the layout: a.rt; exit 1")
+        self.assert_fails(1, "FAILED: the layout of every file (status 1)", 1)
+
+    def test_the_rules_fail(self):
+        self.script("tools/house", "echo house >>ran; echo a.rt:1: something; exit 1")
+        self.assert_fails(1, "FAILED: the rules of the repository (status 1)", 2)
+
+    def test_the_tests_fail(self):
+        self.write_test("self.fail()")
+        self.assert_fails(1, "FAILED: the tests of tools/ (status 1)", 3)
+
+    def test_rt_ci_fails(self):
+        for status in (1, 2, 3):
+            self.rt(ci=f"echo rt: FAILED; echo 215 passed, 1 failed; exit {status}")
+            self.assert_fails(status, "215 passed, 1 failed", 4)
+            (self.root / "ran").unlink()
+        self.assertIn("FAILED: everything proved from nothing", self.gate()[1])
+
+    def test_rt_ci_breaks_off(self):
+        part = "everything proved from nothing, every must-fail edit refused, every program run"
+        for ci, status in [("echo rt: no toolchain >&2; exit 2", 2), (f"echo {self.TALLY}; exit 1", 1), ("kill -9 $$", 137), (f"echo {self.TALLY}; echo more", 1), ("true", 1)]:
+            self.rt(ci=ci)
+            self.assert_fails(status, f"FAILED: {part} (status {status})", 4)
+            (self.root / "ran").unlink()
+
+    def test_the_bindings_fail(self):
+        self.script("bindings/run", "echo bindings >>ran; echo 4 parts passed, 1 failed; exit 1")
+        status, said, _ = self.gate()
+        self.assertEqual((status, said.splitlines()[-1]), (1, "FAILED: the bindings, on the library that was proved (status 1)"))
+
+    def test_no_rt(self):
+        (self.root / "bin" / "rt").unlink()
+        if shutil.which("rt", path="/usr/bin:/bin"):
+            self.skipTest("rt stands among the commands of the system")
+        self.assert_fails(127, "FAILED: the layout of every file (status 127)", 0)
+
+    def test_output_is_shown_as_it_comes(self):
+        self.rt(ci=f"echo one; until [ -f seen ]; do sleep 0.05; done; echo {self.TALLY}")
+        environment = {"PATH": f"{self.root / 'bin'}:/usr/bin:/bin"}
+        with subprocess.Popen([str(self.root / ".ci" / "run")], stdout=subprocess.PIPE, stderr=subprocess.STDOUT, env=environment) as running:
+            said = ""
+            while not said.endswith("\none\n"):
+                said += running.stdout.readline().decode()
+            (self.root / "seen").touch()  # the gate has not ended, and what rt said so far is there
+            said += running.stdout.read().decode()
+        self.assertEqual((running.returncode, said.splitlines()[-1]), (0, self.TALLY))
+
+    def test_closed_output(self):
+        self.rt(ci=f"sleep 0.3; echo {self.TALLY}; exit 0")
+        with subprocess.Popen([str(self.root / ".ci" / "run")], stdout=subprocess.PIPE, stderr=subprocess.PIPE, env={"PATH": f"{self.root / 'bin'}:/usr/bin:/bin"}) as running:
+            running.stdout.close()
+            running.stderr.read()
+        self.assertNotEqual(running.returncode, 0)
+
+    def test_it_is_plain_sh(self):
+        text = (ROOT / ".ci" / "run").read_text()
+        self.assertTrue(text.startswith("#!/bin/sh\n"))
+        checker = shutil.which("shellcheck")
+        if checker is None:
+            self.skipTest("there is no shellcheck")
+        done = subprocess.run([checker, "-s", "sh", str(ROOT / ".ci" / "run")], stdout=subprocess.PIPE)
+        self.assertEqual((done.returncode, done.stdout), (0, b""))
 
 
 class Geometry(unittest.TestCase):
