@@ -15,7 +15,7 @@ use lib.Ieee.Fits.{down-pos, round-fits, and-l, and-r}
 use lib.Ieee.Scale.{round-same}
 
 -- a whole number of the smallest floats, as its bits
-bits-of-value : (x : Float) (s : Bool) (a : ℕ) → HasValue x s a (2 ^ 1074) → toBits binary64 x ≡ cond s (2 ^ 63) 0 + (size a - 53) * 2 ^ 52 + a / 2 ^ (size a - 53)
+pub bits-of-value : (x : Float) (s : Bool) (a : ℕ) → HasValue x s a (2 ^ 1074) → toBits binary64 x ≡ cond s (2 ^ 63) 0 + (size a - 53) * 2 ^ 52 + a / 2 ^ (size a - 53)
 unfolding toBits
 bits-of-value nan s a h = absurd h
 bits-of-value (inf t) s a h = absurd h
@@ -24,7 +24,8 @@ bits-of-value (fin t m e) s a h =
     ap (λ (n : ℕ). cond t (2 ^ 63) 0 + (size n - 53) * 2 ^ 52 + n / 2 ^ (size n - 53)) same
     ∙ ap (λ (b : Bool). cond b (2 ^ 63) 0 + (size a - 53) * 2 ^ 52 + a / 2 ^ (size a - 53)) (h .0)
 
-one-of-value : (x y : Float) (s : Bool) (a : ℕ) → T (fits binary64 x) → T (fits binary64 y) → HasValue x s a (2 ^ 1074) → HasValue y s a (2 ^ 1074) → x ≡ y
+-- so there is one float for each value
+pub one-of-value : (x y : Float) (s : Bool) (a : ℕ) → T (fits binary64 x) → T (fits binary64 y) → HasValue x s a (2 ^ 1074) → HasValue y s a (2 ^ 1074) → x ≡ y
 one-of-value x y s a p q h k = sym (ofBits-toBits binary64 x p) ∙ ap (ofBits binary64) (bits-of-value x s a h ∙ sym (bits-of-value y s a k)) ∙ ofBits-toBits binary64 y q
 
 -- m * 2 ^ e as m * 2 ^ j of the smallest floats
@@ -35,7 +36,7 @@ from-units s m e j p short small h =
     (round-exact binary64 s (m * 2 ^ j) (2 ^ 1074) m j (pow-pos 1074) short small refl)
     (refl, h)
 
-exponents-in-order : (i j : ℕ) → 2 ^ i ≤ 2 ^ j → i ≤ j
+pub exponents-in-order : (i j : ℕ) → 2 ^ i ≤ 2 ^ j → i ≤ j
 exponents-in-order i j h =
     let not-above = lt-of-not-le (λ (g : suc j ≤ i). not-le-of-lt (pow-lt {i = j} {j = i} g) h) in
     omega (arith, not-above)

@@ -116,18 +116,6 @@ not-above (fin s m e) (inf true) h = absurd (false≢true h)
 not-above (fin s m e) (inf false) h = refl
 not-above (fin s m e) (fin t n d) h = sizes-not-above s (m * up e * down d) t (n * up d * down e) h
 
--- ---- the order's laws by their usual names
-
 pub lt-asym : (x y : Float) → lt x y ≡ true → lt y x ≡ false
 unfolding le
 lt-asym x y h = not-above x y (rw h)
-
-pub le-lt-trans : (x y z : Float) → le x y ≡ true → lt y z ≡ true → lt x z ≡ true
-unfolding le isNan
-le-lt-trans nan y z h k = absurd (false≢true h)
-le-lt-trans (inf s) y z h k = carries-over (inf s) y z refl (not-above (inf s) y h) k
-le-lt-trans (fin s m e) y z h k = carries-over (fin s m e) y z refl (not-above (fin s m e) y h) k
-
-pub lt-trans : (x y z : Float) → lt x y ≡ true → lt y z ≡ true → lt x z ≡ true
-unfolding le
-lt-trans x y z h k = le-lt-trans x y z (rw h) k

@@ -18,7 +18,8 @@ use borrow.Author.Tests.{eqb-true, eqb-false}
 use Rattle.rounding.specs.Fused.{product, fused}
 use Rattle.rounding.specs.Near.{Fuses}
 use Rattle.rounding.proofs.Special.{fused-nan-x, fused-nan-y, fused-nan-z, fused-infinite-x, fused-infinite-y, fused-infinite-z}
-use Rattle.rounding.proofs.Whole.{rescale, written}
+use Rattle.float.proofs.Itself.{bits-of-value}
+use Rattle.rounding.proofs.Whole.{rescale}
 use Rattle.rounding.proofs.RootCases.{real, yes}
 use Rattle.rounding.proofs.Sums.{like, more}
 use Rattle.rounding.proofs.Products.{scale, product-own, add-values, fused-is}
@@ -217,7 +218,7 @@ sized true = and-mask (2 ^ 63) 63
 sized false = and-mask 0 63
 
 zero-mag : (s : Bool) (m : ℕ) (e : ℤ) → m ≡ 0 → mag (fin s m e) ≡ 0
-zero-mag s m e z = ap (λ (b : ℕ). bitAnd b 0x7fff_ffff_ffff_ffff) (written (fin s m e) s 0 (refl, ap (λ (x : ℕ). x * up e * 2 ^ 1074) z ∙ ap (λ (x : ℕ). x * 2 ^ 1074) (zero-mul (up e)) ∙ zero-mul (2 ^ 1074) ∙ sym (zero-mul (down e)))) ∙ sized s
+zero-mag s m e z = ap (λ (b : ℕ). bitAnd b 0x7fff_ffff_ffff_ffff) (bits-of-value (fin s m e) s 0 (refl, ap (λ (x : ℕ). x * up e * 2 ^ 1074) z ∙ ap (λ (x : ℕ). x * 2 ^ 1074) (zero-mul (up e)) ∙ zero-mul (2 ^ 1074) ∙ sym (zero-mul (down e)))) ∙ sized s
 
 nonzero : (x : Float) (a : Finite x) → (mag x ≡ 0 → ⊥) → 0 < a .1
 nonzero x a n = go (eq-zero-or-pos (a .1))

@@ -15,7 +15,7 @@ use lib.Ieee.Compare.{differs-from-itself, nan-differs}
 use borrow.Author.Tests.{eq-eqb}
 use Rattle.rounding.specs.Root.{wholeRoot, rootUnits, root}
 use Rattle.rounding.proofs.Special.{root-nan, root-infinity, root-zero, zero-is}
-use Rattle.rounding.proofs.Whole.{written}
+use Rattle.float.proofs.Itself.{bits-of-value}
 
 pub yes : {b : Bool} → b ≡ true → T b
 yes h = subst T (sym h) tt
@@ -89,7 +89,7 @@ one-bits = refl
 
 pub at-one : (x : Float) → T (fits binary64 x) → eq x (ofBits binary64 0x3ff0_0000_0000_0000) ≡ true → x ≡ root x
 at-one x F h =
-    let bits : toBits binary64 x ≡ 0x3ff0_0000_0000_0000 = written x false (2 ^ 1074) (one-value x (ap (λ (z : Float). eq x z) (sym one-is) ∙ h)) ∙ one-bits in
+    let bits : toBits binary64 x ≡ 0x3ff0_0000_0000_0000 = bits-of-value x false (2 ^ 1074) (one-value x (ap (λ (z : Float). eq x z) (sym one-is) ∙ h)) ∙ one-bits in
     subst (λ (y : Float). y ≡ root y) (sym (ap (λ (b : ℕ). ofBits binary64 b) bits) ∙ ofBits-toBits binary64 x F) one-root
 
 -- ---- the infinity

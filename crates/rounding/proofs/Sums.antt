@@ -1,7 +1,7 @@
 -- The sum of two numbers with signs, one of which may be a sticky number that stands for it. Assumes nothing.
 use mathlib.Core.Path.{_≡_, refl, sym, ap, ap₂, _∙_, subst}
 use mathlib.Core.Logic.{_⊎_, inl, inr}
-use mathlib.Core.Bool.{Bool, true, false, not, _&&_, Bool·beq, cond, false≢true}
+use mathlib.Core.Bool.{Bool, true, false, _&&_, Bool·beq, cond, false≢true}
 use Prim.Native.Nat.{ℕ, suc, _+_, _-_, _*_, _/_, _%_, _^_, _≤_, _<_, compare, Ordering, Ordering·lt, Ordering·eq, Ordering·gt}
 use native.Mathlib.Nat.{le-trans, le-of-eq, le-of-lt, lt-of-lt-of-le, lt-of-le-of-lt, le-antisymm, le-of-suc-le-suc, le-mul-of-pos-right, add-mul, mul-sub, mul-comm, mul-assoc, one-mul, zero-mul, mul-le-mul-right, mul-lt-mul-of-pos-right, lt-of-mul-lt-mul-right, div-add-mod', add-comm, add-zero, sub-self, pow-suc}
 use native.Mathlib.Omega.{arith}

@@ -12,6 +12,7 @@ use lib.Ieee.Fits.{up-pos, down-pos}
 use Rattle.float.specs.Operators.{if_then_else_}
 use Rattle.float.specs.Float as float
 use Rattle.rounding.specs.Root.{root, rootUnits}
+use Rattle.rounding.proofs.Special.{root-zero}
 use Rattle.rows.specs.declared.Row.{Row}
 use Rattle.rows.specs.Rows.{zeros, normalizedBy}
 
@@ -21,10 +22,6 @@ same-whole a b c d k c-positive d-positive h =
     sym (mul-div-mul-right (a * k) c d-positive)
     ∙ ap₂ (λ (x y : ℕ). x / y) (mul-right-comm a k d ∙ ap (λ (x : ℕ). x * k) h ∙ mul-right-comm b c k) (mul-comm c d)
     ∙ mul-div-mul-right (b * k) d c-positive
-
-root-zero : (s : Bool) (e : ℤ) → root (fin s 0 e) ≡ fin s 0 e
-unfolding root
-root-zero s e = refl
 
 root-other : (s : Bool) (m : ℕ) (e : ℤ) → root (fin s (suc m) e) ≡ cond s nan (rootUnits (suc m * up e * 4 ^ 1074 / down e))
 unfolding root
