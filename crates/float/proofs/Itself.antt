@@ -15,7 +15,8 @@ use lib.Ieee.Fits.{down-pos, round-fits, and-l, and-r}
 use lib.Ieee.Scale.{round-same}
 
 -- a whole number of the smallest floats, as its bits
-pub bits-of-value : (x : Float) (s : Bool) (a : ℕ) → HasValue x s a (2 ^ 1074) → toBits binary64 x ≡ cond s (2 ^ 63) 0 + (size a - 53) * 2 ^ 52 + a / 2 ^ (size a - 53)
+pub bits-of-value : (x : Float) (s : Bool) (a : ℕ) → HasValue x s a (2 ^ 1074)
+    → toBits binary64 x ≡ cond s (2 ^ 63) 0 + (size a - 53) * 2 ^ 52 + a / 2 ^ (size a - 53)
 unfolding toBits
 bits-of-value nan s a h = absurd h
 bits-of-value (inf t) s a h = absurd h
@@ -26,10 +27,12 @@ bits-of-value (fin t m e) s a h =
 
 -- so there is one float for each value
 pub one-of-value : (x y : Float) (s : Bool) (a : ℕ) → T (fits binary64 x) → T (fits binary64 y) → HasValue x s a (2 ^ 1074) → HasValue y s a (2 ^ 1074) → x ≡ y
-one-of-value x y s a p q h k = sym (ofBits-toBits binary64 x p) ∙ ap (ofBits binary64) (bits-of-value x s a h ∙ sym (bits-of-value y s a k)) ∙ ofBits-toBits binary64 y q
+one-of-value x y s a p q h k =
+    sym (ofBits-toBits binary64 x p) ∙ ap (ofBits binary64) (bits-of-value x s a h ∙ sym (bits-of-value y s a k)) ∙ ofBits-toBits binary64 y q
 
 -- m * 2 ^ e as m * 2 ^ j of the smallest floats
-from-units : (s : Bool) (m : ℕ) (e : ℤ) (j : ℕ) → T (fits binary64 (fin s m e)) → m < 2 ^ 53 → m * 2 ^ j < 2 ^ 2098 → m * up e * 2 ^ 1074 ≡ m * 2 ^ j * down e → round binary64 s (m * up e) (down e) ≡ fin s m e
+from-units : (s : Bool) (m : ℕ) (e : ℤ) (j : ℕ) → T (fits binary64 (fin s m e)) → m < 2 ^ 53 → m * 2 ^ j < 2 ^ 2098
+    → m * up e * 2 ^ 1074 ≡ m * 2 ^ j * down e → round binary64 s (m * up e) (down e) ≡ fin s m e
 from-units s m e j p short small h =
     round-same binary64 s (m * up e) (down e) (m * 2 ^ j) (2 ^ 1074) (down-pos e) (pow-pos 1074) h
     ∙ one-of-value (round binary64 s (m * 2 ^ j) (2 ^ 1074)) (fin s m e) s (m * 2 ^ j) (round-fits binary64 s (m * 2 ^ j) (2 ^ 1074)) p

@@ -77,7 +77,8 @@ inf-bits false = refl
 regroup : (c x y b : ℕ) → x + y ≡ b → c + x + y ≡ b + c
 regroup c x y b e = omega arith
 
-finite-bits : (s : Bool) (q k : ℕ) → q ≤ 2 ^ 53 → (k ≡ 0) ⊎ (2 ^ 52 ≤ q) → q * 2 ^ k < 2 ^ 2098 → ofBits binary64 (k * 2 ^ 52 + q + cond s (2 ^ 63) 0) ≡ units binary64 s q k
+finite-bits : (s : Bool) (q k : ℕ) → q ≤ 2 ^ 53 → (k ≡ 0) ⊎ (2 ^ 52 ≤ q) → q * 2 ^ k < 2 ^ 2098
+    → ofBits binary64 (k * 2 ^ 52 + q + cond s (2 ^ 63) 0) ≡ units binary64 s q k
 finite-bits s q k h w l =
     let v = odd 54 s q k 1074 in
     let bits : toBits binary64 v ≡ k * 2 ^ 52 + q + cond s (2 ^ 63) 0 =
@@ -107,7 +108,8 @@ top-only q k h j l = go (eq-or-lt-of-le h) (eq-or-lt-of-le j)
 pub packed : (s : Bool) (q k : ℕ) → q ≤ 2 ^ 53 → (k ≡ 0) ⊎ (2 ^ 52 ≤ q) → k ≤ 2045 → ofBits binary64 (k * 2 ^ 52 + q + cond s (2 ^ 63) 0) ≡ units binary64 s q k
 packed s q k h w j = go (ltb (q * 2 ^ k) (2 ^ 2098)) (ltb→lt (q * 2 ^ k) (2 ^ 2098)) (nltb→le (q * 2 ^ k) (2 ^ 2098))
   where
-    go : (b : Bool) → (T b → q * 2 ^ k < 2 ^ 2098) → (T (not b) → 2 ^ 2098 ≤ q * 2 ^ k) → ofBits binary64 (k * 2 ^ 52 + q + cond s (2 ^ 63) 0) ≡ units binary64 s q k
+    go : (b : Bool) → (T b → q * 2 ^ k < 2 ^ 2098) → (T (not b) → 2 ^ 2098 ≤ q * 2 ^ k)
+        → ofBits binary64 (k * 2 ^ 52 + q + cond s (2 ^ 63) 0) ≡ units binary64 s q k
     go true a b = finite-bits s q k h w (a tt)
     go false a b = ap (λ (x : ℕ). ofBits binary64 (x + cond s (2 ^ 63) 0)) (top-only q k h j (b tt)) ∙ inf-bits s ∙ sym (units-inf s q k (b tt))
 

@@ -3,7 +3,9 @@ use mathlib.Core.Path.{_≡_, refl, sym, ap, ap₂, _∙_, subst}
 use mathlib.Core.Logic.{_⊎_, inl, inr}
 use mathlib.Core.Bool.{Bool, true, false, not, cond, true≢false}
 use Prim.Native.Nat.{ℕ, zero, suc, _+_, _-_, _*_, _/_, _%_, _^_, _≤_, _<_, zero-le, compare, Ordering, Ordering·lt, Ordering·eq, Ordering·gt}
-use native.Mathlib.Nat.{le-trans, le-of-eq, lt-of-lt-of-le, lt-of-le-of-lt, lt-of-not-le, not-le-of-lt, le-of-suc-le-suc, eq-zero-or-pos, add-zero, add-mul, mul-add, mul-comm, mul-assoc, mul-left-comm, mul-right-comm, mul-mul-mul-comm, mul-one, zero-mul, mul-pos, mul-le-mul, mul-le-mul-left, mul-le-mul-right, mul-lt-mul-of-pos-right, mul-div-cancel, mod-eq-of-lt, pow-suc, div-lt-iff-lt-mul, lt-irrefl}
+use native.Mathlib.Nat.{le-trans, le-of-eq, lt-of-lt-of-le, lt-of-le-of-lt, lt-of-not-le, not-le-of-lt, le-of-suc-le-suc, eq-zero-or-pos, add-zero, add-mul}
+use native.Mathlib.Nat.{mul-add, mul-comm, mul-assoc, mul-left-comm, mul-right-comm, mul-mul-mul-comm, mul-one, zero-mul, mul-pos, mul-le-mul}
+use native.Mathlib.Nat.{mul-le-mul-left, mul-le-mul-right, mul-lt-mul-of-pos-right, mul-div-cancel, mod-eq-of-lt, pow-suc, div-lt-iff-lt-mul, lt-irrefl}
 use native.Mathlib.Omega.{arith}
 use lib.Dec.{T, leb, eqb, leb→le, nleb→lt, eqb→eq, lit<, lit≤}
 use lib.Pow.{pow-add, pow-pos, pow-mono, shl-lt}
@@ -61,7 +63,8 @@ next-root n q lo hi = go (leb ((q + 1) * (q + 1)) n) (leb→le ((q + 1) * (q + 1
 pub whole-root-is : (k n : ℕ) → n < 4 ^ k → IsRoot n (wholeRoot k n)
 unfolding wholeRoot
 whole-root-is zero n h = (zero-le, h)
-whole-root-is (suc k) n h = step (wholeRoot k (n / 4)) (whole-root-is k (n / 4) (div-lt-iff-lt-mul {k = 4} (lit< tt) .1 (subst (λ (x : ℕ). n < x) (pow-suc 4 k) h)))
+whole-root-is (suc k) n h =
+    step (wholeRoot k (n / 4)) (whole-root-is k (n / 4) (div-lt-iff-lt-mul {k = 4} (lit< tt) .1 (subst (λ (x : ℕ). n < x) (pow-suc 4 k) h)))
   where
     low : (n p : ℕ) → p ≤ n / 4 → p * 4 ≤ n
     low n p h = omega arith
@@ -101,7 +104,9 @@ module _ (N q r h Q : ℕ) (e : q * q + r ≡ N) (small : r ≤ 2 * q) (is : IsR
 
   -- q * 2 ^ h ≤ Q < (q + 1) * 2 ^ h
   least : q * p ≤ Q
-  least = le-of-suc-le-suc (lt-le (q * p) Q (sq-lt-back (q * p) (Q + 1) (lt-of-le-of-lt (le-trans (le-of-eq (scaled q h)) (mul-le-mul-right (4 ^ h) (go (q * q) e))) (is .1))))
+  least =
+      le-of-suc-le-suc (lt-le (q * p) Q
+      (sq-lt-back (q * p) (Q + 1) (lt-of-le-of-lt (le-trans (le-of-eq (scaled q h)) (mul-le-mul-right (4 ^ h) (go (q * q) e))) (is .1))))
     where
       go : (s : ℕ) → s + r ≡ N → s ≤ N
       go s e = omega arith
@@ -110,7 +115,10 @@ module _ (N q r h Q : ℕ) (e : q * q + r ≡ N) (small : r ≤ 2 * q) (is : IsR
       lt-le a b h = omega arith
 
   most : Q < (q + 1) * p
-  most = sq-lt-back Q ((q + 1) * p) (lt-of-le-of-lt (is .0) (lt-of-lt-of-le (mul-lt-mul-of-pos-right (go (q * q) ((q + 1) * (q + 1)) e (next-square q)) (four-pos h)) (le-of-eq (sym (scaled (q + 1) h)))))
+  most =
+      sq-lt-back Q ((q + 1) * p)
+      (lt-of-le-of-lt (is .0) (lt-of-lt-of-le (mul-lt-mul-of-pos-right (go (q * q) ((q + 1) * (q + 1)) e (next-square q)) (four-pos h))
+      (le-of-eq (sym (scaled (q + 1) h)))))
     where
       go : (s t : ℕ) → s + r ≡ N → t ≡ s + 2 * q + 1 → N < t
       go s t a b = omega arith
@@ -157,7 +165,9 @@ module _ (N q r h Q : ℕ) (e : q * q + r ≡ N) (small : r ≤ 2 * q) (is : IsR
       left s a b = omega arith
 
       not-square : q * p ≡ Q → Q * Q ≡ n → ⊥
-      not-square a b = lt-irrefl n (lt-of-le-of-lt (le-of-eq (sym b ∙ ap (λ (x : ℕ). x * x) (sym a) ∙ scaled q h)) (mul-lt-mul-of-pos-right (left (q * q) e z) (four-pos h)))
+      not-square a b =
+          lt-irrefl n (lt-of-le-of-lt (le-of-eq (sym b ∙ ap (λ (x : ℕ). x * x) (sym a) ∙ scaled q h))
+          (mul-lt-mul-of-pos-right (left (q * q) e z) (four-pos h)))
 
       go : (o : Ordering) → Cmp o (q * p) Q → 2 * (q * p) < doubled n Q
       go Ordering·lt k = twice-lt (q * p) Q (cond (eqb (Q * Q) n) 0 1) k
@@ -252,7 +262,9 @@ nearest-half w q r e = by-left (eqb r 0) refl
 
 -- ---- the root of a float of a known value
 no-zero : (m A d : ℕ) (u : ℕ) → 0 < A → 0 < d → m * u * 2 ^ 1136 ≡ A * d → m ≡ 0 → ⊥
-no-zero m A d u h k e z = lt-irrefl 0 (subst (λ (x : ℕ). 0 < x) (sym e ∙ ap (λ (x : ℕ). x * u * 2 ^ 1136) z ∙ ap (λ (x : ℕ). x * 2 ^ 1136) (zero-mul u) ∙ zero-mul (2 ^ 1136)) (mul-pos h k))
+no-zero m A d u h k e z =
+    lt-irrefl 0 (subst (λ (x : ℕ). 0 < x)
+    (sym e ∙ ap (λ (x : ℕ). x * u * 2 ^ 1136) z ∙ ap (λ (x : ℕ). x * 2 ^ 1136) (zero-mul u) ∙ zero-mul (2 ^ 1136)) (mul-pos h k))
 
 pub root-at : (x : Float) (A : ℕ) → 0 < A → HasValue x false A (2 ^ 1136) → root x ≡ rootUnits (A * 2 ^ 1012)
 unfolding root
@@ -334,7 +346,10 @@ module _ (m e q : ℕ) (lo : 2 ^ 62 ≤ m) (hi : m < 2 ^ 63) (whole : m % 1024 �
       mul-assoc m (2 ^ e) (2 ^ 1012)
       ∙ ap₂ (λ (x y : ℕ). x * y) m-is (sym (pow-add 2 e 1012))
       ∙ mul-assoc d (2 ^ 10) (2 ^ (e + 1012))
-      ∙ ap (λ (x : ℕ). d * x) (sym (pow-add 2 10 (e + 1012)) ∙ ap (λ (x : ℕ). 2 ^ x) (go e odd half halves) ∙ pow-add 2 (odd + 54) (h + h) ∙ ap₂ (λ (x y : ℕ). x * y) (pow-add 2 odd 54) (sym (four-two h)))
+      ∙ ap (λ (x : ℕ). d * x) (sym (pow-add 2 10 (e + 1012))
+      ∙ ap (λ (x : ℕ). 2 ^ x) (go e odd half halves)
+      ∙ pow-add 2 (odd + 54) (h + h)
+      ∙ ap₂ (λ (x y : ℕ). x * y) (pow-add 2 odd 54) (sym (four-two h)))
       ∙ sym (mul-assoc d (2 ^ odd * 2 ^ 54) (4 ^ h))
       ∙ ap (λ (x : ℕ). x * 4 ^ h) (sym (mul-assoc d (2 ^ odd) (2 ^ 54)))
     where
@@ -342,7 +357,9 @@ module _ (m e q : ℕ) (lo : 2 ^ 62 ≤ m) (hi : m < 2 ^ 63) (whole : m % 1024 �
       go e o k a = omega arith
 
   n-lt : m * 2 ^ e * 2 ^ 1012 < 4 ^ 1586
-  n-lt = lt-of-le-of-lt (le-of-eq (mul-assoc m (2 ^ e) (2 ^ 1012) ∙ ap (λ (x : ℕ). m * x) (sym (pow-add 2 e 1012)))) (lt-of-lt-of-le (shl-lt 63 (e + 1012) hi) (pow-mono (go e far)))
+  n-lt =
+      lt-of-le-of-lt (le-of-eq (mul-assoc m (2 ^ e) (2 ^ 1012) ∙ ap (λ (x : ℕ). m * x) (sym (pow-add 2 e 1012))))
+      (lt-of-lt-of-le (shl-lt 63 (e + 1012) hi) (pow-mono (go e far)))
     where
       go : (e : ℕ) → e < 2098 → 63 + (e + 1012) ≤ 3172
       go e h = omega arith
@@ -396,12 +413,17 @@ module _ (m e q : ℕ) (lo : 2 ^ 62 ≤ m) (hi : m < 2 ^ 63) (whole : m % 1024 �
         let n = m * 2 ^ e * 2 ^ 1012 in
         let Q = wholeRoot 1586 n in
         let is' : IsRoot (w * 2 ^ 54 * 4 ^ h) Q = subst (λ (x : ℕ). IsRoot x Q) n-is (whole-root-is 1586 n n-lt) in
-        let st : Sticky (doubled n Q) (2 ^ h) J = subst (λ (x : ℕ). Sticky (doubled x Q) (2 ^ h) J) (sym n-is) (root-sticky (w * 2 ^ 54) q r h Q r-is r-le is') in
+        let st : Sticky (doubled n Q) (2 ^ h) J =
+        subst (λ (x : ℕ). Sticky (doubled x Q) (2 ^ h) J) (sym n-is) (root-sticky (w * 2 ^ 54) q r h Q r-is r-le is') in
         let st' : Sticky (doubled n Q * 2 ^ 2336) (2 ^ 1075 * 2 ^ (half + 1745)) J =
-        subst (λ (x : ℕ). Sticky (doubled n Q * 2 ^ 2336) x J) (sym (pow-add 2 h 2336) ∙ ap (λ (x : ℕ). 2 ^ x) (level half) ∙ pow-add 2 1075 (half + 1745)) (sticky-times (doubled n Q) (2 ^ h) (2 ^ 2336) J (pow-pos 2336) st) in
+        subst (λ (x : ℕ). Sticky (doubled n Q * 2 ^ 2336) x J)
+        (sym (pow-add 2 h 2336) ∙ ap (λ (x : ℕ). 2 ^ x) (level half) ∙ pow-add 2 1075 (half + 1745))
+        (sticky-times (doubled n Q) (2 ^ h) (2 ^ 2336) J (pow-pos 2336) st) in
         units-is n
         ∙ round-sticky binary64 false (doubled n Q) (2 ^ 1075) J (half + 1745) 2336 (pow-pos 1075) J-ge st'
-        ∙ ap (λ (x : ℕ). round binary64 false x (2 ^ 2336)) (ap (λ (x : ℕ). J * x) (ap (λ (x : ℕ). 2 ^ x) (nine half) ∙ pow-add 2 9 (half + 1736)) ∙ sym (mul-assoc J (2 ^ 9) (2 ^ (half + 1736))))
+        ∙ ap (λ (x : ℕ). round binary64 false x (2 ^ 2336))
+        (ap (λ (x : ℕ). J * x) (ap (λ (x : ℕ). 2 ^ x) (nine half) ∙ pow-add 2 9 (half + 1736))
+        ∙ sym (mul-assoc J (2 ^ 9) (2 ^ (half + 1736))))
       where
         level : (k : ℕ) → k + 484 + 2336 ≡ 1075 + (k + 1745)
         level k = omega arith
@@ -434,7 +456,9 @@ module _ (m e q : ℕ) (lo : 2 ^ 62 ≤ m) (hi : m < 2 ^ 63) (whole : m % 1024 �
         go q h = omega arith
 
     pub q-packed : ofBits binary64 ((half + 485) * 2 ^ 52 + (q + 1) / 2) ≡ units binary64 false ((q + 1) / 2) (half + 485)
-    q-packed = ap (λ (x : ℕ). ofBits binary64 x) (sym (add-zero ((half + 485) * 2 ^ 52 + (q + 1) / 2))) ∙ packed false ((q + 1) / 2) (half + 485) q-most (inr q-least) half-lt
+    q-packed =
+        ap (λ (x : ℕ). ofBits binary64 x) (sym (add-zero ((half + 485) * 2 ^ 52 + (q + 1) / 2)))
+        ∙ packed false ((q + 1) / 2) (half + 485) q-most (inr q-least) half-lt
 
 -- ---- as the program has it, with masks and shifts that lose nothing
 module _ {b m e : ℕ} (t : Taken b m e) where

@@ -2,7 +2,8 @@
 use mathlib.Core.Path.{_≡_, refl, sym, ap, _∙_}
 use mathlib.Core.Bool.{Bool, true, false, _&&_}
 use Prim.Native.Nat.{ℕ, zero, suc, _-_, _*_, _/_, _%_, _^_, _≤_, _<_}
-use native.Mathlib.Nat.{le-trans, le-antisymm, le-of-eq, lt-of-le-of-lt, lt-of-lt-of-le, mul-assoc, mul-right-comm, mul-one, one-mul, zero-mul, mul-le-mul-right, mul-pos, mul-lt-mul-of-pos-right, lt-of-mul-lt-mul-right, mul-div-cancel, eq-of-mul-eq-mul-right}
+use native.Mathlib.Nat.{le-trans, le-antisymm, le-of-eq, lt-of-le-of-lt, lt-of-lt-of-le, mul-assoc, mul-right-comm, mul-one, one-mul, zero-mul}
+use native.Mathlib.Nat.{mul-le-mul-right, mul-pos, mul-lt-mul-of-pos-right, lt-of-mul-lt-mul-right, mul-div-cancel, eq-of-mul-eq-mul-right}
 use lib.IntN.{ℤ, pos, negsuc}
 use lib.Dec.{T, eqb, leb, ltb, eqb→eq, leb→le, ltb→lt, lit≤}
 use lib.Pow.{pow-add, pow-pos}
@@ -61,8 +62,10 @@ held s (suc m) e h =
     let low : Bool = leb (down e) (2 ^ 1074) in
     let high : Bool = ltb (suc m * up e) (2 ^ 1024 * down e) in
     let odd : Bool = eqb (suc m % 2) 1 in
-    let short : Bool = ltb (suc m) (2 ^ 53) in
-    (leb→le (down e) (2 ^ 1074) (and-r (odd && short) low (and-l (odd && short && low) high h)), ltb→lt (suc m * up e) (2 ^ 1024 * down e) (and-r (odd && short && low) high h))
+    let short : Bool = ltb (suc m) (2 ^ 53) in (
+      leb→le (down e) (2 ^ 1074) (and-r (odd && short) low (and-l (odd && short && low) high h)),
+      ltb→lt (suc m * up e) (2 ^ 1024 * down e) (and-r (odd && short && low) high h),
+    )
 
 pub whole-value : (s : Bool) (m : ℕ) (e : ℤ) → T (fits binary64 (fin s m e)) → HasValue (fin s m e) s (unitsIn (fin s m e)) (2 ^ 1074)
 whole-value s m e h = (refl, no-rest (m * up e) e (held s m e h .0))
@@ -85,7 +88,12 @@ same-value (fin t m e) y s a c C p q v w =
     let whole = whole-value t m e p in
     let cross : n * c ≡ a * 2 ^ 1074 =
     eq-of-mul-eq-mul-right (down e) (down-pos e) (n * c) (a * 2 ^ 1074)
-    (mul-right-comm n c (down e) ∙ ap (λ (k : ℕ). k * c) (sym (whole .1)) ∙ mul-right-comm (m * up e) (2 ^ 1074) c ∙ ap (λ (k : ℕ). k * 2 ^ 1074) (v .1) ∙ mul-right-comm a (down e) (2 ^ 1074)) in
+    (mul-right-comm n c (down e)
+    ∙ ap (λ (k : ℕ). k * c) (sym (whole .1))
+    ∙ mul-right-comm (m * up e) (2 ^ 1074) c
+    ∙ ap (λ (k : ℕ). k * 2 ^ 1074) (v .1)
+    ∙ mul-right-comm a (down e) (2 ^ 1074))
+    in
     one-of-value (fin t m e) y s n p q (v .0, whole .1) (rescale y s a c n (2 ^ 1074) C cross w)
 
 -- ---- the values above zero
@@ -104,4 +112,5 @@ positive-below (fin s m e) h p = whole-below s m e h
 -- of two that fit, each at most the other, there is one
 pub le-antisym : (x y : Float) → T (positive x) → T (positive y) → T (fits binary64 x) → T (fits binary64 y) → T (le x y) → T (le y x) → x ≡ y
 le-antisym x y p q f g h k =
-    same-value x y false (num x) (den x) (den-pos x) f g (own-value x p) (rescale y false (num y) (den y) (num x) (den x) (den-pos y) (le-antisymm (le→cross x y p q h) (le→cross y x q p k)) (own-value y q))
+    same-value x y false (num x) (den x) (den-pos x) f g (own-value x p)
+    (rescale y false (num y) (den y) (num x) (den x) (den-pos y) (le-antisymm (le→cross x y p q h) (le→cross y x q p k)) (own-value y q))

@@ -42,12 +42,19 @@ same-sign false false a h k = refl
 same-sign true false a h k = absurd (omega (arith, eqb-true a 0 k))
 same-sign false true a h k = absurd (omega (arith, eqb-true a 0 k))
 
-finite-alike : (s : Bool) (m : ℕ) (e : ℤ) (t : Bool) (n : ℕ) (d : ℤ) (r : Row) → (m * up e * down d ≡ n * up d * down e) × (Bool·beq s t || eqb (m * up e * down d) 0 ≡ true) → normalizedBy (root (fin s m e)) r ≡ normalizedBy (root (fin t n d)) r
+finite-alike : (s : Bool) (m : ℕ) (e : ℤ) (t : Bool) (n : ℕ) (d : ℤ) (r : Row)
+    → (m * up e * down d ≡ n * up d * down e) × (Bool·beq s t || eqb (m * up e * down d) 0 ≡ true)
+    → normalizedBy (root (fin s m e)) r ≡ normalizedBy (root (fin t n d)) r
 finite-alike s zero e t zero d r h = rw (root-zero s e, root-zero t d, zero-norm s e, zero-norm t d)
 finite-alike s zero e t (suc n) d r h = absurd (omega (arith, h .0, positive n d e))
 finite-alike s (suc m) e t zero d r h = absurd (omega (arith, h .0, positive m e d))
 finite-alike s (suc m) e t (suc n) d r h =
-    rw (root-other s m e, root-other t n d, same-sign s t (suc m * up e * down d) (positive m e d) (h .1), same-whole (suc m * up e) (suc n * up d) (down e) (down d) (4 ^ 1074) (down-pos e) (down-pos d) (h .0))
+    rw (
+      root-other s m e,
+      root-other t n d,
+      same-sign s t (suc m * up e * down d) (positive m e d) (h .1),
+      same-whole (suc m * up e) (suc n * up d) (down e) (down d) (4 ^ 1074) (down-pos e) (down-pos d) (h .0),
+    )
 
 alike : (x y : Float) (r : Row) → eq x y ≡ true → normalizedBy (root x) r ≡ normalizedBy (root y) r
 unfolding eq root
