@@ -1,4 +1,4 @@
--- A float that fits is what its own value is rounded to. Assumes nothing.
+-- A float that fits is what its own value is rounded to, and there is one float for each value. Assumes nothing.
 use mathlib.Core.Path.{_≡_, refl, sym, ap, _∙_, subst}
 use mathlib.Core.Bool.{Bool, cond}
 use Prim.Native.Nat.{ℕ, zero, suc, _+_, _-_, _*_, _/_, _^_, _≤_, _<_}
@@ -25,7 +25,6 @@ bits-of-value (fin t m e) s a h =
     ap (λ (n : ℕ). cond t (2 ^ 63) 0 + (size n - 53) * 2 ^ 52 + n / 2 ^ (size n - 53)) same
     ∙ ap (λ (b : Bool). cond b (2 ^ 63) 0 + (size a - 53) * 2 ^ 52 + a / 2 ^ (size a - 53)) (h .0)
 
--- so there is one float for each value
 pub one-of-value : (x y : Float) (s : Bool) (a : ℕ) → T (fits binary64 x) → T (fits binary64 y) → HasValue x s a (2 ^ 1074) → HasValue y s a (2 ^ 1074) → x ≡ y
 one-of-value x y s a p q h k =
     sym (ofBits-toBits binary64 x p) ∙ ap (ofBits binary64) (bits-of-value x s a h ∙ sym (bits-of-value y s a k)) ∙ ofBits-toBits binary64 y q

@@ -27,7 +27,7 @@ pair-of (a ∷ b ∷ s) (suc k) h =
     let e₁ : 2 * suc k + 1 ≡ suc (suc (2 * k + 1)) = omega arith in
     rw (e₁, e₀) (pair-of s k (omega arith))
 
-pub pairs-length : (s : List Float) (n : ℕ) → 2 * n ≡ length s → length (pairsOf s) ≡ n
+pairs-length : (s : List Float) (n : ℕ) → 2 * n ≡ length s → length (pairsOf s) ≡ n
 unfolding pairsOf
 pairs-length [] n e = omega arith
 pairs-length (a ∷ []) n e = absurd (let z : ⊥ = omega arith in z)

@@ -69,7 +69,7 @@ module _ (x : Float) (F : T (fits binary64 x)) where
       go true h = set B (eqb-true (B / 2 ^ 63) 1 h)
       go false h = clear B B-lt (eqb-false (B / 2 ^ 63) 1 h)
 
-  pub back : ofBits binary64 (mag x + cond (sign x) (2 ^ 63) 0) ≡ x
+  back : ofBits binary64 (mag x + cond (sign x) (2 ^ 63) 0) ≡ x
   back = ap (λ (b : ℕ). ofBits binary64 b) whole ∙ ofBits-toBits binary64 x F
 
   pub at-inf : mag x ≡ 0x7ff0_0000_0000_0000 → x ≡ inf (sign x)
@@ -95,7 +95,7 @@ pub mag-pos : (a : ℕ) → (a ≡ 0 → ⊥) → 0 < a
 mag-pos a n = omega arith
 
 -- the product's sign, as the program compares the two bits
-pub signs : (x y : Float) → T (fits binary64 x) → T (fits binary64 y)
+signs : (x y : Float) → T (fits binary64 x) → T (fits binary64 y)
     → unlike (sign x) (sign y) ≡ not (eqb (toBits binary64 x / 2 ^ 63) (toBits binary64 y / 2 ^ 63))
 signs x y F G = go (toBits binary64 x / 2 ^ 63) (toBits binary64 y / 2 ^ 63) (bit (toBits binary64 x) (B-lt x F)) (bit (toBits binary64 y) (B-lt y G))
   where

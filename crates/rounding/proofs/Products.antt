@@ -56,7 +56,7 @@ pub product-own : (s : Bool) (m : ℕ) (e : ℤ) (t : Bool) (n : ℕ) (d : ℤ)
 unfolding product
 product-own s m e t n d = (refl, refl)
 
-pub product-value : (x y : Float) (s t : Bool) (a b : ℕ) → HasValue x s a (2 ^ 1136) → HasValue y t b (2 ^ 1136)
+product-value : (x y : Float) (s t : Bool) (a b : ℕ) → HasValue x s a (2 ^ 1136) → HasValue y t b (2 ^ 1136)
     → HasValue (product x y) (unlike s t) (a * b) (2 ^ 2272)
 unfolding product
 product-value nan y s t a b v w = absurd v
@@ -84,7 +84,7 @@ product-value (fin u m e) (fin r n d) s t a b v w = (
         ∙ ap (λ (x : ℕ). x * k) (mul-mul-mul-comm (m * u) (n * v) c c)
 
 -- ---- `sum` sees only the values
-pub sum-same : (f : Format) (s t : Bool) (a b c a' b' c' : ℕ) → 0 < c → 0 < c' → a * c' ≡ a' * c → b * c' ≡ b' * c → sum f s a t b c ≡ sum f s a' t b' c'
+sum-same : (f : Format) (s t : Bool) (a b c a' b' c' : ℕ) → 0 < c → 0 < c' → a * c' ≡ a' * c → b * c' ≡ b' * c → sum f s a t b c ≡ sum f s a' t b' c'
 sum-same f s t a b c a' b' c' C C' p q = go (Bool·beq s t) refl
   where
     cross : (x y x' y' : ℕ) → x * c' ≡ x' * c → y * c' ≡ y' * c → x < y → x' < y'

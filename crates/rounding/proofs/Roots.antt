@@ -181,7 +181,7 @@ module _ (N q r h Q : ℕ) (e : q * q + r ≡ N) (small : r ≤ 2 * q) (is : IsR
       go true Q t h = omega arith
       go false Q t h = omega arith
 
-  pub root-sticky : Sticky (doubled n Q) (2 ^ h) (marked q r)
+  root-sticky : Sticky (doubled n Q) (2 ^ h) (marked q r)
   root-sticky = go (eqb r 0) refl
     where
       even-is : (q p P : ℕ) → P ≡ 2 * p → q * P ≡ (2 * q + 0) * p
@@ -201,7 +201,7 @@ module _ (N q r h Q : ℕ) (e : q * q + r ≡ N) (small : r ≤ 2 * q) (is : IsR
       go false t = inr (odd-is (doubled n Q) q p (2 ^ (h + 1)) twice (above (λ (z : r ≡ 0). true≢false (sym (eq-eqb r 0 z) ∙ t))) under)
 
 -- ---- the bounds of q, the root of w * 2 ^ 54
-pub root-big : (w q : ℕ) → 2 ^ 52 ≤ w → IsRoot (w * 2 ^ 54) q → 2 ^ 53 ≤ q
+root-big : (w q : ℕ) → 2 ^ 52 ≤ w → IsRoot (w * 2 ^ 54) q → 2 ^ 53 ≤ q
 root-big w q h is = at-least (sq-lt-back (2 ^ 53) (q + 1) (lt-of-le-of-lt (go w h) (is .1)))
   where
     at-least : 2 ^ 53 < q + 1 → 2 ^ 53 ≤ q
@@ -210,7 +210,7 @@ root-big w q h is = at-least (sq-lt-back (2 ^ 53) (q + 1) (lt-of-le-of-lt (go w 
     go : (w : ℕ) → 2 ^ 52 ≤ w → 2 ^ 106 ≤ w * 2 ^ 54
     go w h = omega arith
 
-pub root-small : (w q : ℕ) → w < 2 ^ 54 → IsRoot (w * 2 ^ 54) q → q < 2 ^ 54
+root-small : (w q : ℕ) → w < 2 ^ 54 → IsRoot (w * 2 ^ 54) q → q < 2 ^ 54
 root-small w q h is = sq-lt-back q (2 ^ 54) (lt-of-le-of-lt (is .0) (go w h))
   where
     go : (w : ℕ) → w < 2 ^ 54 → w * 2 ^ 54 < 2 ^ 108
@@ -227,7 +227,7 @@ odd-left w q r e o z = go (q / 2) r w (sym (ap (λ (x : ℕ). x * x + r) (parts 
     go a r w e z = omega arith
 
 -- so a fourth of `marked q r` is nearest to half of q, rounded up
-pub nearest-half : (w q r : ℕ) → q * q + r ≡ w * 2 ^ 54 → closest (marked q r * 512) 2048 ≡ (q + 1) / 2
+nearest-half : (w q r : ℕ) → q * q + r ≡ w * 2 ^ 54 → closest (marked q r * 512) 2048 ≡ (q + 1) / 2
 nearest-half w q r e = by-left (eqb r 0) refl
   where
     down : (q c : ℕ) → c ≤ 1 → q % 2 ≡ 0 → closest ((2 * q + c) * 512) 2048 ≡ (q + 1) / 2
@@ -329,7 +329,7 @@ module _ (m e q : ℕ) (lo : 2 ^ 62 ≤ m) (hi : m < 2 ^ 63) (whole : m % 1024 �
   w-ge : 2 ^ 52 ≤ w
   w-ge = le-trans d-ge (le-trans (le-of-eq (sym (mul-one d))) (mul-le-mul-left d (pow-pos odd)))
 
-  pub w-lt : w < 2 ^ 54
+  w-lt : w < 2 ^ 54
   w-lt = lt-of-lt-of-le (shl-lt 53 odd d-lt) (pow-mono (go odd bit))
     where
       go : (o : ℕ) → o ≤ 1 → 53 + o ≤ 54
@@ -364,17 +364,17 @@ module _ (m e q : ℕ) (lo : 2 ^ 62 ≤ m) (hi : m < 2 ^ 63) (whole : m % 1024 �
       go : (e : ℕ) → e < 2098 → 63 + (e + 1012) ≤ 3172
       go e h = omega arith
 
-  pub half-lt : half + 485 ≤ 2045
+  half-lt : half + 485 ≤ 2045
   half-lt = go e odd half far halves
     where
       go : (e o k : ℕ) → e < 2098 → o + 2 * k ≡ e → k + 485 ≤ 2045
       go e o k h a = omega arith
 
   module _ (is : IsRoot (w * 2 ^ 54) q) where
-    pub q-ge : 2 ^ 53 ≤ q
+    q-ge : 2 ^ 53 ≤ q
     q-ge = root-big w q w-ge is
 
-    pub q-lt : q < 2 ^ 54
+    q-lt : q < 2 ^ 54
     q-lt = root-small w q w-lt is
 
     abbrev r : ℕ
@@ -431,7 +431,7 @@ module _ (m e q : ℕ) (lo : 2 ^ 62 ≤ m) (hi : m < 2 ^ 63) (whole : m % 1024 �
         nine : (k : ℕ) → k + 1745 ≡ 9 + (k + 1736)
         nine k = omega arith
 
-    pub q-units : units binary64 false ((q + 1) / 2) (half + 485) ≡ rootUnits (m * 2 ^ e * 2 ^ 1012)
+    q-units : units binary64 false ((q + 1) / 2) (half + 485) ≡ rootUnits (m * 2 ^ e * 2 ^ 1012)
     q-units =
         ap₂ (λ (x y : ℕ). units binary64 false x y) (sym (nearest-half w q r r-is)) (less half)
         ∙ round-high false (J * 512) (half + 1736) (mul-le-mul-right 512 J-ge) (shl-lt 55 9 J-lt) (far-up half)
@@ -455,7 +455,7 @@ module _ (m e q : ℕ) (lo : 2 ^ 62 ≤ m) (hi : m < 2 ^ 63) (whole : m % 1024 �
         go : (q : ℕ) → 2 ^ 53 ≤ q → 2 ^ 52 ≤ (q + 1) / 2
         go q h = omega arith
 
-    pub q-packed : ofBits binary64 ((half + 485) * 2 ^ 52 + (q + 1) / 2) ≡ units binary64 false ((q + 1) / 2) (half + 485)
+    q-packed : ofBits binary64 ((half + 485) * 2 ^ 52 + (q + 1) / 2) ≡ units binary64 false ((q + 1) / 2) (half + 485)
     q-packed =
         ap (λ (x : ℕ). ofBits binary64 x) (sym (add-zero ((half + 485) * 2 ^ 52 + (q + 1) / 2)))
         ∙ packed false ((q + 1) / 2) (half + 485) q-most (inr q-least) half-lt
@@ -496,7 +496,7 @@ module _ {b m e : ℕ} (t : Taken b m e) where
         go : (k : ℕ) → k ≤ 2045 → k * 2 ^ 52 < 2 ^ 64
         go k h = omega arith
 
-    pub program-packed : ofBits binary64 (k * 2 ^ 52 % 2 ^ 64 + (q + 1) / 2) ≡ units binary64 false ((q + 1) / 2) ((e - e % 2) / 2 + 485)
+    program-packed : ofBits binary64 (k * 2 ^ 52 % 2 ^ 64 + (q + 1) / 2) ≡ units binary64 false ((q + 1) / 2) ((e - e % 2) / 2 + 485)
     program-packed = ap (λ (x : ℕ). ofBits binary64 (x + (q + 1) / 2)) field-is ∙ q-packed m e q (t .least) (t .most) (t .whole) (t .far) is'
 
     pub program-real : T (not (nanBits binary64 (k * 2 ^ 52 % 2 ^ 64 + (q + 1) / 2)))

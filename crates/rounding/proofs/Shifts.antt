@@ -36,7 +36,7 @@ sticky-up a b q lo hi = subst (λ (J : ℕ). Sticky a b J) (sym (or-one q)) (inr
     go : (w : ℕ) → w < a → w + b < a + b
     go w h = omega arith
 
-pub div-up : (a b : ℕ) → 0 < b → a < (a / b + 1) * b
+div-up : (a b : ℕ) → 0 < b → a < (a / b + 1) * b
 div-up a b h = lt-of-lt-of-le (lt-div-mul-add h) (le-of-eq (sym (add-mul (a / b) 1 b ∙ ap (λ (x : ℕ). a / b * b + x) (one-mul b))))
 
 back-fits : (a d : ℕ) → a < 2 ^ 64 → a / 2 ^ d * 2 ^ d % 2 ^ 64 ≡ a / 2 ^ d * 2 ^ d

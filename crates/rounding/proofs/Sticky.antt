@@ -183,7 +183,7 @@ module _ (X B J D : ℕ) (Bp : 0 < B) (Dp : 0 < D) (o : J % 2 ≡ 1) (hi : X < (
       upper : (R N h : ℕ) → N ≡ 2 * h → h < R → N < R * 2
       upper R N h a b = omega arith
 
-  pub closest-near : closest X (B * (4 * D)) ≡ closest J (4 * D)
+  closest-near : closest X (B * (4 * D)) ≡ closest J (4 * D)
   closest-near = ap₂ nearest quot same-order
 
 pub closest-sticky : (X B J D : ℕ) → 0 < B → 0 < D → Sticky X B J → closest X (B * (4 * D)) ≡ closest J (4 * D)
@@ -218,7 +218,7 @@ round-at f s a c k C w =
     (drop-at (prec f) k (a * 2 ^ low f) c (two-le-pos (prec f) (two f)) C w)
 
 -- every fraction has its window
-pub window-of : (p n c : ℕ) → 0 < p → 0 < c → Window p (drop p n c) n c
+window-of : (p n c : ℕ) → 0 < p → 0 < c → Window p (drop p n c) n c
 window-of p n c P C = (
   div-lt-iff-lt-mul C .0 (lt-of-lt-of-le (size-lt (n / c)) (pow-mono (cover (size (n / c)) p))),
   go (compare 0 (drop p n c)) (cmp 0 (drop p n c)),
@@ -407,7 +407,7 @@ module _ (f : Format) (s : Bool) (a c J e L : ℕ) (C : 0 < c) (big : 2 ^ (prec 
       back : (x y : ℕ) → a * (c * (x * y)) ≡ a * x * (c * y)
       back x y = simp (mul-assoc, mul-left-comm)
 
-  pub round-near : round f s a c ≡ round f s (J * 2 ^ e) (2 ^ L)
+  round-near : round f s a c ≡ round f s (J * 2 ^ e) (2 ^ L)
   round-near =
       round-at f s a c k C w
       ∙ ap (λ (z : ℕ). units f s z k) (of-a ∙ closest-near X B J D Bp (pow-pos (L + k - (e + l) - 2)) o hi lo ∙ sym of-J)

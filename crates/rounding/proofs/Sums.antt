@@ -62,7 +62,7 @@ beq-eq true false h = absurd (false≢true h)
 beq-eq false true h = absurd (false≢true h)
 beq-eq false false h = refl
 
-pub sum-comm : (f : Format) (s t : Bool) (a b c : ℕ) → sum f s a t b c ≡ sum f t b s a c
+sum-comm : (f : Format) (s t : Bool) (a b c : ℕ) → sum f s a t b c ≡ sum f t b s a c
 sum-comm f s t a b c = go (Bool·beq s t) refl
   where
     three : (o : Ordering) → Cmp o a b → Bool·beq s t ≡ false → sum f s a t b c ≡ sum f t b s a c
@@ -164,7 +164,7 @@ module _ (s t : Bool) (P Q X e L : ℕ) (even : P % 2 ≡ 0) (gap : Q + 2 ^ 54 �
       down : (p q x r : ℕ) → r ≡ q + w → q < p → x < p → x < r → p - q < p - x + w
       down p q x r a b c d = omega arith
 
-  pub sum-near : sum binary64 s (P * w) t (Q * w) (2 ^ L) ≡ sum binary64 s (P * w) t X (2 ^ L)
+  sum-near : sum binary64 s (P * w) t (Q * w) (2 ^ L) ≡ sum binary64 s (P * w) t X (2 ^ L)
   sum-near = go (Bool·beq s t) refl
     where
       big-sum : (P Q : ℕ) → Q + 2 ^ 54 ≤ P → 2 ^ 54 ≤ P + Q
@@ -185,7 +185,7 @@ module _ (s t : Bool) (P Q X e L : ℕ) (even : P % 2 ≡ 0) (gap : Q + 2 ^ 54 �
           ∙ to-round (P * w - X) (P - Q) (big-diff P Q gap) diff-st
           ∙ sym (more binary64 s t (P * w) X (2 ^ L) h X-lt)
 
-pub sum-sticky : (s t : Bool) (P Q X e L : ℕ) → P % 2 ≡ 0 → (X ≡ Q * 2 ^ e) ⊎ (Q + 2 ^ 54 ≤ P) → Sticky X (2 ^ e) Q
+sum-sticky : (s t : Bool) (P Q X e L : ℕ) → P % 2 ≡ 0 → (X ≡ Q * 2 ^ e) ⊎ (Q + 2 ^ 54 ≤ P) → Sticky X (2 ^ e) Q
     → sum binary64 s (P * 2 ^ e) t (Q * 2 ^ e) (2 ^ L) ≡ sum binary64 s (P * 2 ^ e) t X (2 ^ L)
 sum-sticky s t P Q X e L even (inl x) st = ap (λ (y : ℕ). sum binary64 s (P * 2 ^ e) t y (2 ^ L)) (sym x)
 sum-sticky s t P Q X e L even (inr g) (inl x) = ap (λ (y : ℕ). sum binary64 s (P * 2 ^ e) t y (2 ^ L)) (sym x)
@@ -201,7 +201,7 @@ exact-only k b J B (inr s) =
     go : (k J : ℕ) → k < J + 1 → J < k + 1 → k ≡ J
     go k J a b = omega arith
 
-pub far-or-exact : (X d J p w n : ℕ) → X % 2 ^ p ≡ 0 → X < 2 ^ n → n ≤ w + suc p → Sticky X (2 ^ d) J → (X ≡ J * 2 ^ d) ⊎ (J ≤ 2 ^ w)
+far-or-exact : (X d J p w n : ℕ) → X % 2 ^ p ≡ 0 → X < 2 ^ n → n ≤ w + suc p → Sticky X (2 ^ d) J → (X ≡ J * 2 ^ d) ⊎ (J ≤ 2 ^ w)
 far-or-exact X d J p w n z lt h st = go (compare p d) (cmp p d)
   where
     near : d ≤ p → X ≡ J * 2 ^ d
@@ -243,7 +243,7 @@ far-or-exact X d J p w n z lt h st = go (compare p d) (cmp p d)
     go Ordering·gt g = inl (near (le-of-lt g))
 
 -- a sticky number is no larger than what it stands for, and is not 0 unless that is
-pub sticky-le : (X b J : ℕ) → 0 < b → Sticky X b J → J ≤ X
+sticky-le : (X b J : ℕ) → 0 < b → Sticky X b J → J ≤ X
 sticky-le X b J B (inl e) = le-trans (le-mul-of-pos-right J B) (le-of-eq (sym e))
 sticky-le X b J B (inr s) =
     le-of-suc-le-suc (plus-one J X (lt-of-mul-lt-mul-right b (lt-of-lt-of-le (s .2)
@@ -255,7 +255,7 @@ sticky-le X b J B (inr s) =
     grow : (x y z : ℕ) → x ≤ y → x + z ≤ y + z
     grow x y z h = omega arith
 
-pub sticky-pos : (X b J : ℕ) → 0 < X → Sticky X b J → 0 < J
+sticky-pos : (X b J : ℕ) → 0 < X → Sticky X b J → 0 < J
 sticky-pos X b J h (inl e) = go (compare 0 J) (cmp 0 J)
   where
     none : (x : ℕ) → 0 < x → x ≡ 0 → ⊥

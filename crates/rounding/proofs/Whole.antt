@@ -67,11 +67,11 @@ held s (suc m) e h =
       ltb→lt (suc m * up e) (2 ^ 1024 * down e) (and-r (odd && short && low) high h),
     )
 
-pub whole-value : (s : Bool) (m : ℕ) (e : ℤ) → T (fits binary64 (fin s m e)) → HasValue (fin s m e) s (unitsIn (fin s m e)) (2 ^ 1074)
+whole-value : (s : Bool) (m : ℕ) (e : ℤ) → T (fits binary64 (fin s m e)) → HasValue (fin s m e) s (unitsIn (fin s m e)) (2 ^ 1074)
 whole-value s m e h = (refl, no-rest (m * up e) e (held s m e h .0))
 
 -- from 2 ^ 2098 units on it is an infinity
-pub whole-below : (s : Bool) (m : ℕ) (e : ℤ) → T (fits binary64 (fin s m e)) → unitsIn (fin s m e) < 2 ^ 2098
+whole-below : (s : Bool) (m : ℕ) (e : ℤ) → T (fits binary64 (fin s m e)) → unitsIn (fin s m e) < 2 ^ 2098
 whole-below s m e h =
     lt-of-mul-lt-mul-right (down e)
     (lt-of-le-of-lt (le-of-eq (sym (no-rest (m * up e) e (held s m e h .0))))
@@ -80,7 +80,7 @@ whole-below s m e h =
 -- ---- one value, one float
 
 -- two that fit and have the same sign and size are the same float
-pub same-value : (x y : Float) (s : Bool) (a c : ℕ) → 0 < c → T (fits binary64 x) → T (fits binary64 y) → HasValue x s a c → HasValue y s a c → x ≡ y
+same-value : (x y : Float) (s : Bool) (a c : ℕ) → 0 < c → T (fits binary64 x) → T (fits binary64 y) → HasValue x s a c → HasValue y s a c → x ≡ y
 same-value nan y s a c C p q v w = absurd v
 same-value (inf t) y s a c C p q v w = absurd v
 same-value (fin t m e) y s a c C p q v w =

@@ -34,7 +34,7 @@ low-le n = go (low n) (n % 2 ^ 32) (low-is n) (mod-lt n (lit< tt))
     go : (a b : ℕ) → a ≡ b → b < 2 ^ 32 → a ≤ 0xffff_ffff
     go a b e h = omega arith
 
-pub half-product : (a b : ℕ) → a ≤ 0xffff_ffff → b ≤ 0xffff_ffff → a * b ≤ 0xffff_fffe_0000_0001
+half-product : (a b : ℕ) → a ≤ 0xffff_ffff → b ≤ 0xffff_ffff → a * b ≤ 0xffff_fffe_0000_0001
 half-product a b h k = mul-le-mul h k
 
 module _ (u v : ℕ) (Uh : u < 2 ^ 64) (Vh : v < 2 ^ 64) where
