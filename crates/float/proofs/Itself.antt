@@ -1,4 +1,4 @@
--- A float that fits is what its own value is rounded to. Assumes nothing.
+-- A float that fits is what its own value is rounded to, and there is one float for each value. Assumes nothing.
 use mathlib.Core.Path.{_≡_, refl, sym, ap, _∙_, subst}
 use mathlib.Core.Bool.{Bool, cond}
 use Prim.Native.Nat.{ℕ, zero, suc, _+_, _-_, _*_, _/_, _^_, _≤_, _<_}
@@ -15,7 +15,8 @@ use lib.Ieee.Fits.{down-pos, round-fits, and-l, and-r}
 use lib.Ieee.Scale.{round-same}
 
 -- a whole number of the smallest floats, as its bits
-bits-of-value : (x : Float) (s : Bool) (a : ℕ) → HasValue x s a (2 ^ 1074) → toBits binary64 x ≡ cond s (2 ^ 63) 0 + (size a - 53) * 2 ^ 52 + a / 2 ^ (size a - 53)
+pub bits-of-value : (x : Float) (s : Bool) (a : ℕ) → HasValue x s a (2 ^ 1074)
+    → toBits binary64 x ≡ cond s (2 ^ 63) 0 + (size a - 53) * 2 ^ 52 + a / 2 ^ (size a - 53)
 unfolding toBits
 bits-of-value nan s a h = absurd h
 bits-of-value (inf t) s a h = absurd h
@@ -24,18 +25,20 @@ bits-of-value (fin t m e) s a h =
     ap (λ (n : ℕ). cond t (2 ^ 63) 0 + (size n - 53) * 2 ^ 52 + n / 2 ^ (size n - 53)) same
     ∙ ap (λ (b : Bool). cond b (2 ^ 63) 0 + (size a - 53) * 2 ^ 52 + a / 2 ^ (size a - 53)) (h .0)
 
-one-of-value : (x y : Float) (s : Bool) (a : ℕ) → T (fits binary64 x) → T (fits binary64 y) → HasValue x s a (2 ^ 1074) → HasValue y s a (2 ^ 1074) → x ≡ y
-one-of-value x y s a p q h k = sym (ofBits-toBits binary64 x p) ∙ ap (ofBits binary64) (bits-of-value x s a h ∙ sym (bits-of-value y s a k)) ∙ ofBits-toBits binary64 y q
+pub one-of-value : (x y : Float) (s : Bool) (a : ℕ) → T (fits binary64 x) → T (fits binary64 y) → HasValue x s a (2 ^ 1074) → HasValue y s a (2 ^ 1074) → x ≡ y
+one-of-value x y s a p q h k =
+    sym (ofBits-toBits binary64 x p) ∙ ap (ofBits binary64) (bits-of-value x s a h ∙ sym (bits-of-value y s a k)) ∙ ofBits-toBits binary64 y q
 
 -- m * 2 ^ e as m * 2 ^ j of the smallest floats
-from-units : (s : Bool) (m : ℕ) (e : ℤ) (j : ℕ) → T (fits binary64 (fin s m e)) → m < 2 ^ 53 → m * 2 ^ j < 2 ^ 2098 → m * up e * 2 ^ 1074 ≡ m * 2 ^ j * down e → round binary64 s (m * up e) (down e) ≡ fin s m e
+from-units : (s : Bool) (m : ℕ) (e : ℤ) (j : ℕ) → T (fits binary64 (fin s m e)) → m < 2 ^ 53 → m * 2 ^ j < 2 ^ 2098
+    → m * up e * 2 ^ 1074 ≡ m * 2 ^ j * down e → round binary64 s (m * up e) (down e) ≡ fin s m e
 from-units s m e j p short small h =
     round-same binary64 s (m * up e) (down e) (m * 2 ^ j) (2 ^ 1074) (down-pos e) (pow-pos 1074) h
     ∙ one-of-value (round binary64 s (m * 2 ^ j) (2 ^ 1074)) (fin s m e) s (m * 2 ^ j) (round-fits binary64 s (m * 2 ^ j) (2 ^ 1074)) p
     (round-exact binary64 s (m * 2 ^ j) (2 ^ 1074) m j (pow-pos 1074) short small refl)
     (refl, h)
 
-exponents-in-order : (i j : ℕ) → 2 ^ i ≤ 2 ^ j → i ≤ j
+pub exponents-in-order : (i j : ℕ) → 2 ^ i ≤ 2 ^ j → i ≤ j
 exponents-in-order i j h =
     let not-above = lt-of-not-le (λ (g : suc j ≤ i). not-le-of-lt (pow-lt {i = j} {j = i} g) h) in
     omega (arith, not-above)

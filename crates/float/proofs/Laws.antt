@@ -22,7 +22,8 @@ one-of-two false x y = inl refl
 unfoldable pick : (Float → Float → Bool) → Float → Float → Float
 pick before x y = if isNan x || before y x then y else x
 
-module _ (before : Float → Float → Bool) (nan-first : (y : Float) → before nan y ≡ false) (one-way : (x y : Float) → before x y ≡ true → before y x ≡ false) where
+module _ (before : Float → Float → Bool) (nan-first : (y : Float) → before nan y ≡ false)
+    (one-way : (x y : Float) → before x y ≡ true → before y x ≡ false) where
   past-nan-right : (x : Float) → pick before x nan ≡ x
   unfolding pick isNan if_then_else_
   past-nan-right nan = refl

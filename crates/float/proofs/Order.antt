@@ -4,7 +4,8 @@ use mathlib.Core.Path.{_≡_, refl, sym, _∙_}
 use mathlib.Core.Logic.{_⊎_, inl, inr, ⊎-elim}
 use mathlib.Core.Bool.{Bool, true, false, cond, _&&_, _||_, true≢false, false≢true, and-eq-true-iff}
 use Prim.Native.Nat.{ℕ, _+_, _*_, _≤_, _<_}
-use native.Mathlib.Nat.{le-of-lt, le-of-eq, zero-add, add-zero, add-comm, add-mul, zero-mul, mul-assoc, mul-comm, mul-left-comm, mul-le-mul-right, mul-lt-mul-of-pos-right, lt-of-mul-lt-mul-right}
+use native.Mathlib.Nat.{le-of-lt, le-of-eq, zero-add, add-zero, add-comm, add-mul, zero-mul, mul-assoc, mul-comm}
+use native.Mathlib.Nat.{mul-left-comm, mul-le-mul-right, mul-lt-mul-of-pos-right, lt-of-mul-lt-mul-right}
 use native.Mathlib.Omega.{arith}
 use borrow.Author.Tests.{ltb-true, ltb-false, lt-ltb, le-ltb, eqb-true}
 use lib.Dec.{ltb, eqb}
@@ -38,7 +39,8 @@ lt-sides true m e true n d = simp (zero-mul, zero-add)
 ruleset products = (add-mul, mul-assoc, mul-comm, mul-left-comm)
 
 -- (p - n) / d is at most (p' - n') / d', which is below (p'' - n'') / d''
-through : (p n d p' n' d' p'' n'' d'' : ℕ) → 0 < d → p * d' + n' * d ≤ p' * d + n * d' → p' * d'' + n'' * d' < p'' * d' + n' * d'' → p * d'' + n'' * d < p'' * d + n * d''
+through : (p n d p' n' d' p'' n'' d'' : ℕ) → 0 < d → p * d' + n' * d ≤ p' * d + n * d' → p' * d'' + n'' * d' < p'' * d' + n' * d''
+    → p * d'' + n'' * d < p'' * d + n * d''
 through p n d p' n' d' p'' n'' d'' positive h k =
     let h' = simp products at (mul-le-mul-right d'' h) in
     let k' = simp products at (mul-lt-mul-of-pos-right k positive) in
@@ -84,7 +86,8 @@ carries-over (fin s m e) (fin t n d) (inf u) c h k = k
 carries-over (fin s m e) (fin t n d) (fin u l f) c h k =
     lt-sides s m e u l f
     ∙ lt-ltb (side s m e u l f) (side u l f s m e)
-    (through (plus s (m * up e)) (minus s (m * up e)) (down e) (plus t (n * up d)) (minus t (n * up d)) (down d) (plus u (l * up f)) (minus u (l * up f)) (down f) (down-pos e)
+    (through (plus s (m * up e)) (minus s (m * up e)) (down e) (plus t (n * up d)) (minus t (n * up d)) (down d)
+    (plus u (l * up f)) (minus u (l * up f)) (down f) (down-pos e)
     (ltb-false (side t n d s m e) (side s m e t n d) (sym (lt-sides t n d s m e) ∙ h))
     (ltb-true (side t n d u l f) (side u l f t n d) (sym (lt-sides t n d u l f) ∙ k)))
 
@@ -95,12 +98,18 @@ either true q h = inl refl
 either false q h = inr h
 
 sizes-not-above : (s : Bool) (a : ℕ) (t : Bool) (b : ℕ) → below s a t b || level s a t b ≡ true → below t b s a ≡ false
-sizes-not-above false a false b h = le-ltb b a (⊎-elim (λ l. le-of-lt (ltb-true a b l)) (λ q. le-of-eq (eqb-true a b (and-eq-true-iff (eqb a b) true .0 q .0))) (either (ltb a b) (eqb a b && true) h))
+sizes-not-above false a false b h =
+    le-ltb b a
+    (⊎-elim (λ l. le-of-lt (ltb-true a b l)) (λ q. le-of-eq (eqb-true a b (and-eq-true-iff (eqb a b) true .0 q .0)))
+    (either (ltb a b) (eqb a b && true) h))
 sizes-not-above false a true b h =
     let both = and-eq-true-iff (eqb a b) (eqb a 0) .0 h in
     le-ltb 0 (b + a) (omega (arith, eqb-true a b (both .0), eqb-true a 0 (both .1)))
 sizes-not-above true a false b h = refl
-sizes-not-above true a true b h = le-ltb a b (⊎-elim (λ l. le-of-lt (ltb-true b a l)) (λ q. le-of-eq (sym (eqb-true a b (and-eq-true-iff (eqb a b) true .0 q .0)))) (either (ltb b a) (eqb a b && true) h))
+sizes-not-above true a true b h =
+    le-ltb a b
+    (⊎-elim (λ l. le-of-lt (ltb-true b a l)) (λ q. le-of-eq (sym (eqb-true a b (and-eq-true-iff (eqb a b) true .0 q .0))))
+    (either (ltb b a) (eqb a b && true) h))
 
 pub not-above : (x y : Float) → le x y ≡ true → lt y x ≡ false
 unfolding le
@@ -116,18 +125,6 @@ not-above (fin s m e) (inf true) h = absurd (false≢true h)
 not-above (fin s m e) (inf false) h = refl
 not-above (fin s m e) (fin t n d) h = sizes-not-above s (m * up e * down d) t (n * up d * down e) h
 
--- ---- the order's laws by their usual names
-
 pub lt-asym : (x y : Float) → lt x y ≡ true → lt y x ≡ false
 unfolding le
 lt-asym x y h = not-above x y (rw h)
-
-pub le-lt-trans : (x y z : Float) → le x y ≡ true → lt y z ≡ true → lt x z ≡ true
-unfolding le isNan
-le-lt-trans nan y z h k = absurd (false≢true h)
-le-lt-trans (inf s) y z h k = carries-over (inf s) y z refl (not-above (inf s) y h) k
-le-lt-trans (fin s m e) y z h k = carries-over (fin s m e) y z refl (not-above (fin s m e) y h) k
-
-pub lt-trans : (x y z : Float) → lt x y ≡ true → lt y z ≡ true → lt x z ≡ true
-unfolding le
-lt-trans x y z h k = le-lt-trans x y z (rw h) k

@@ -85,7 +85,8 @@ add-sign (infinite h) (finite k) = infinite h
 add-sign (finite h) none = none
 add-sign (finite h) (infinite k) = infinite k
 add-sign (finite {t} {m} {e} h) (finite {t = u} {m = n} {e = d} k) =
-    sum-sign (m * up e * down d) (n * up d * down e) (down e * down d) (mul-pos (down-pos e) (down-pos d)) t u (λ p. h (whole-part m e (down d) p)) (λ p. k (whole-part n d (down e) p))
+    sum-sign (m * up e * down d) (n * up d * down e) (down e * down d) (mul-pos (down-pos e) (down-pos d)) t u
+    (λ p. h (whole-part m e (down d) p)) (λ p. k (whole-part n d (down e) p))
 
 neg-sign : {s : Bool} {x : Float} → Sign s x → Sign (not s) (neg x)
 unfolding neg

@@ -65,7 +65,8 @@ pub fn bits_of(x: f64) -> u64
     if x != x {
         0x7FF8_0000_0000_0000
     } else {
-        f64::to_bits(x)
+        let bits = f64::to_bits(x);
+        bits
     }
 }
 

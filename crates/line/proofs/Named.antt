@@ -62,7 +62,8 @@ module _ {n : ℕ} where
   meeting-below false ε s below = below
   meeting-below true ε s below = either (SpanBelow n) _ (either (SpanBelow n) _ below below) below
 
-  narrowed-cases : (w : Narrowed) {m : Counted Span} {f : Span → Counted Span} → NarrowedBelow n w → m gives SpanBelow n → ((s : Span) → SpanBelow n s → f s gives SpanBelow n)
+  narrowed-cases : (w : Narrowed) {m : Counted Span} {f : Span → Counted Span} → NarrowedBelow n w → m gives SpanBelow n
+      → ((s : Span) → SpanBelow n s → f s gives SpanBelow n)
       → _gives_ {A = Span} (elim w [ Empty ↦ m | Kept s ↦ f s ]) (SpanBelow n)
   narrowed-cases Empty below h k = h
   narrowed-cases (Kept s) below h k = k s below
@@ -72,4 +73,5 @@ module _ {n : ℕ} where
     unfolding lp1dCore void
     lp1dCore-below [] k s h below = pure-gives _ (meeting-below autonan ε s below)
     lp1dCore-below (t ∷ terms) k s h below =
-        read-gives 1 (narrowed-cases (narrow cancel ε k t s) (narrow-below cancel ε k t s (omega arith) below) (pure-gives (void s) below) (λ s′. lp1dCore-below terms (k + 1) s′ (omega arith)))
+        read-gives 1 (narrowed-cases (narrow cancel ε k t s) (narrow-below cancel ε k t s (omega arith) below) (pure-gives (void s) below)
+        (λ s′. lp1dCore-below terms (k + 1) s′ (omega arith)))

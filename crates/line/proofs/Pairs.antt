@@ -16,7 +16,8 @@ use Rattle.line.specs.declared.Narrowed.the-variants.{Empty, Kept}
 use Rattle.line.specs.Line.{void, narrow, meeting, lp1dCore, pairsOf, pairAt}
 use Rattle.line.proofs.Reduction.{kept, emptied}
 
-pub pair-of : (s : List Float) (k : ℕ) → 2 * k + 1 < length s → pairAt (pairsOf s) k ≡ record { a = getD s (2 * k) nan; b = getD s (2 * k + 1) nan; scale = float.zero }
+pub pair-of : (s : List Float) (k : ℕ) → 2 * k + 1 < length s
+    → pairAt (pairsOf s) k ≡ record { a = getD s (2 * k) nan; b = getD s (2 * k + 1) nan; scale = float.zero }
 unfolding pairAt pairsOf
 pair-of [] k h = absurd (let z : ⊥ = omega arith in z)
 pair-of (a ∷ []) k h = absurd (let z : ⊥ = omega arith in z)
@@ -26,7 +27,7 @@ pair-of (a ∷ b ∷ s) (suc k) h =
     let e₁ : 2 * suc k + 1 ≡ suc (suc (2 * k + 1)) = omega arith in
     rw (e₁, e₀) (pair-of s k (omega arith))
 
-pub pairs-length : (s : List Float) (n : ℕ) → 2 * n ≡ length s → length (pairsOf s) ≡ n
+pairs-length : (s : List Float) (n : ℕ) → 2 * n ≡ length s → length (pairsOf s) ≡ n
 unfolding pairsOf
 pairs-length [] n e = omega arith
 pairs-length (a ∷ []) n e = absurd (let z : ⊥ = omega arith in z)
@@ -46,7 +47,8 @@ module _ (autonan : Bool) (ε : Float) (s : List Float) (n k : ℕ) (v : Span) (
     unfolding pairAt
     next = drop-cons (pairsOf s) k _ (omega (arith, pairs-length s n whole)) ∙ ap (λ m. pairAt (pairsOf s) k ∷ drop m (pairsOf s)) (sym (add-one k))
 
-    pub pair-keeps : (w : Span) → narrow false ε k (pairAt (pairsOf s) k) v ≡ Kept w → over (drop k (pairsOf s)) ≡ lp1dCore autonan false ε (drop (k + 1) (pairsOf s)) (k + 1) w .value
+    pub pair-keeps : (w : Span) → narrow false ε k (pairAt (pairsOf s) k) v ≡ Kept w
+        → over (drop k (pairsOf s)) ≡ lp1dCore autonan false ε (drop (k + 1) (pairsOf s)) (k + 1) w .value
     unfolding _>>_
     pair-keeps w e = ap over next ∙ ap (λ m. m .value) (kept autonan false ε (pairAt (pairsOf s) k) (drop (k + 1) (pairsOf s)) k v w e)
 

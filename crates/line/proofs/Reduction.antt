@@ -77,4 +77,8 @@ module _ (autonan : Bool) (ε : Float) (g : Row → Term) (s : List Float) (upto
     row-keeps w h e = next ∙ ap (within rest) (kept autonan true ε (g row) (map g others) k v w e) ∙ reading-fits rest 1 _ (omega arith)
 
     pub row-empties : 0 < rest → narrow true ε k (g row) v ≡ Empty → from ≡ paid (void v) (rest - 1)
-    row-empties h e = next ∙ ap (within rest) (emptied autonan true ε (g row) (map g others) k v e) ∙ reading-fits rest 1 _ (omega arith) ∙ within-pure (rest - 1) (void v)
+    row-empties h e =
+        next
+        ∙ ap (within rest) (emptied autonan true ε (g row) (map g others) k v e)
+        ∙ reading-fits rest 1 _ (omega arith)
+        ∙ within-pure (rest - 1) (void v)

@@ -21,7 +21,9 @@ unfolding cutOff without narrow if_then_else_
 without-cut cancel ε k t s = cases (coefficientIsZero cancel t) (t .b ≺ neg ε) (t .a ≻ zero) (t .b ≺ s .high ⊗ t .a) (t .b ≺ s .low ⊗ t .a)
   where
     cases : (none fails up above below : Bool)
-        → without k (if none then (if fails then All else Nothing) else if up then (if above then Above (t .b ⊘ t .a) else Nothing) else if below then Below (t .b ⊘ t .a) else Nothing) s
+        → without k (if none then (if fails then All else Nothing) else if up then
+        (if above then Above (t .b ⊘ t .a) else Nothing)
+        else if below then Below (t .b ⊘ t .a) else Nothing) s
         ≡ (if none then (if fails then Empty else Kept s) else if up then
         Kept (if above then record { high = t .b ⊘ t .a; low = s .low; active = setFirst k (s .active) } else s)
         else Kept (if below then record { high = s .high; low = t .b ⊘ t .a; active = setSecond k (s .active) } else s))
@@ -46,7 +48,8 @@ module _ (cancel : Bool) (ε : Float) (k : ℕ) (t : Term) (v : Span) {cut : Cut
   cuts-all e = narrowed e
 
   module _ (w : Span) where
-    written : {c : Cut} {high low : Float} {first second : Slot} → without k c v ≡ Kept (span high low first second) → cut ≡ c → w .high ≡ high → w .low ≡ low → w .active .first ≡ first → w .active .second ≡ second
+    written : {c : Cut} {high low : Float} {first second : Slot} → without k c v ≡ Kept (span high low first second) → cut ≡ c
+        → w .high ≡ high → w .low ≡ low → w .active .first ≡ first → w .active .second ≡ second
         → narrow cancel ε k t v ≡ Kept w
     written u e h l f s = narrowed e ∙ u ∙ rw (← h, ← l, ← f, ← s)
 

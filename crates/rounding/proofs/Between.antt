@@ -1,10 +1,11 @@
--- Where √n lies between two whole numbers of 2 ^ -1074, and what a fraction rounds to by its square: one up to n rounds to at most what √n * 2 ^ -1074 rounds to, and one from n on to at
--- least that. Assumes nothing.
+-- Where √n lies between two whole numbers of 2 ^ -1074, and what a fraction rounds to by its square: one up to n rounds to at most what
+-- √n * 2 ^ -1074 rounds to, and one from n on to at least that. Assumes nothing.
 use mathlib.Core.Path.{_≡_, refl, sym, ap, ap₂, _∙_, subst}
 use mathlib.Core.Logic.{inr}
 use mathlib.Core.Bool.{Bool, true, false, cond, true≢false}
 use Prim.Native.Nat.{ℕ, _+_, _*_, _%_, _^_, _≤_, _<_, compare, Ordering, Ordering·lt, Ordering·eq, Ordering·gt}
-use native.Mathlib.Nat.{le-refl, le-trans, le-of-eq, le-of-lt, lt-of-lt-of-le, lt-of-le-of-lt, not-le-of-lt, mul-comm, mul-assoc, mul-left-comm, mul-mul-mul-comm, mul-one, one-mul, mul-pos, mul-le-mul-right, mul-lt-mul-of-pos-right, add-mul, add-zero}
+use native.Mathlib.Nat.{le-refl, le-trans, le-of-eq, le-of-lt, lt-of-lt-of-le, lt-of-le-of-lt, not-le-of-lt, mul-comm, mul-assoc, mul-left-comm}
+use native.Mathlib.Nat.{mul-mul-mul-comm, mul-one, one-mul, mul-pos, mul-le-mul-right, mul-lt-mul-of-pos-right, add-mul, add-zero}
 use native.Mathlib.Omega.{arith}
 use lib.Dec.{T, eqb, eqb→eq}
 use lib.Pow.{pow-pos}
@@ -54,8 +55,10 @@ large-positive = tt
 pub rounded-positive : (n Q : ℕ) → 0 < Q → Q < 2 ^ 1586 → T (positive (rounded n Q))
 rounded-positive n Q h k =
     between (round binary64 false 1 (2 ^ 1074)) (rounded n Q) (round binary64 false (2 ^ 512) 1) smallest-positive large-positive
-    (round-mono binary64 1 (2 ^ 1074) (doubled n Q) (2 ^ 1075) (pow-pos 1074) (pow-pos 1075) (mul-le-mul-right (2 ^ 1074) (le-trans (two Q h) (doubled-least n Q))))
-    (round-mono binary64 (doubled n Q) (2 ^ 1075) (2 ^ 512) 1 (pow-pos 1075) (pow-pos 0) (le-trans (le-of-eq (mul-one (doubled n Q))) (le-trans (doubled-most n Q) (double-lt Q (2 ^ 1586) k))))
+    (round-mono binary64 1 (2 ^ 1074) (doubled n Q) (2 ^ 1075) (pow-pos 1074) (pow-pos 1075)
+    (mul-le-mul-right (2 ^ 1074) (le-trans (two Q h) (doubled-least n Q))))
+    (round-mono binary64 (doubled n Q) (2 ^ 1075) (2 ^ 512) 1 (pow-pos 1075) (pow-pos 0)
+    (le-trans (le-of-eq (mul-one (doubled n Q))) (le-trans (doubled-most n Q) (double-lt Q (2 ^ 1586) k))))
   where
     two : (Q : ℕ) → 0 < Q → 2 ≤ 2 * Q
     two Q h = omega arith
@@ -122,7 +125,10 @@ module _ (n Q a c : ℕ) (C : 0 < c) (is : IsRoot n Q) (big : 2 ^ 53 ≤ Q) wher
   under h = go (compare (Q * c) A) (cmp (Q * c) A)
     where
       below : A ≤ Q * c → T (le (round binary64 false a c) R)
-      below g = round-mono binary64 a c (doubled n Q) (2 ^ 1075) C (pow-pos 1075) (le-trans (le-of-eq two-A) (le-trans (twice A (Q * c) g) (le-trans (le-of-eq (sym (mul-assoc 2 Q c))) (mul-le-mul-right c (doubled-least n Q)))))
+      below g =
+          round-mono binary64 a c (doubled n Q) (2 ^ 1075) C (pow-pos 1075)
+          (le-trans (le-of-eq two-A)
+          (le-trans (twice A (Q * c) g) (le-trans (le-of-eq (sym (mul-assoc 2 Q c))) (mul-le-mul-right c (doubled-least n Q)))))
         where
           twice : (x y : ℕ) → x ≤ y → 2 * x ≤ 2 * y
           twice x y h = omega arith
@@ -160,7 +166,9 @@ module _ (n Q a c : ℕ) (C : 0 < c) (is : IsRoot n Q) (big : 2 ^ 53 ≤ Q) wher
       near hi = pick (eqb (Q * Q) n) refl
         where
           pick : (b : Bool) → eqb (Q * Q) n ≡ b → T (le R (round binary64 false a c))
-          pick true e = above (le-trans (mul-le-mul-right c (le-of-eq (ap (λ (b : Bool). 2 * Q + cond b 0 1) e ∙ add-zero (2 * Q)))) (le-trans (le-of-eq (mul-assoc 2 Q c)) (twice (Q * c) A Qc-le)))
+          pick true e =
+              above (le-trans (mul-le-mul-right c (le-of-eq (ap (λ (b : Bool). 2 * Q + cond b 0 1) e ∙ add-zero (2 * Q))))
+              (le-trans (le-of-eq (mul-assoc 2 Q c)) (twice (Q * c) A Qc-le)))
             where
               twice : (x y : ℕ) → x ≤ y → 2 * x ≤ 2 * y
               twice x y h = omega arith
@@ -170,7 +178,9 @@ module _ (n Q a c : ℕ) (C : 0 < c) (is : IsRoot n Q) (big : 2 ^ 53 ≤ Q) wher
               ns k = true≢false (sym (eq-eqb (Q * Q) n k) ∙ e)
 
               strict : Q * c < A
-              strict = sq-lt-back (Q * c) A (lt-of-lt-of-le (lt-of-le-of-lt (le-of-eq (sq-c Q)) (mul-lt-mul-of-pos-right (lib-lt (Q * Q) n (is .0) ns) (mul-pos C C))) h)
+              strict =
+                  sq-lt-back (Q * c) A
+                  (lt-of-lt-of-le (lt-of-le-of-lt (le-of-eq (sq-c Q)) (mul-lt-mul-of-pos-right (lib-lt (Q * Q) n (is .0) ns) (mul-pos C C))) h)
                 where
                   lib-lt : (x y : ℕ) → x ≤ y → (x ≡ y → ⊥) → x < y
                   lib-lt x y h n = omega arith
@@ -191,7 +201,8 @@ Over n Q = (a : ℕ) × (k : ℕ) × (0 < k) × (n * (k * k) ≤ a * a) × (roun
 -- Q itself, where its square is n
 at-square : (n Q : ℕ) → Q * Q ≡ n → round binary64 false Q (1 * 2 ^ 1074) ≡ rounded n Q
 at-square n Q e =
-    round-same binary64 false Q (1 * 2 ^ 1074) (2 * Q) (2 ^ 1075) (pow-pos 1074) (pow-pos 1075) (sym (mul-assoc Q (2 ^ 1074) 2) ∙ mul-comm (Q * 2 ^ 1074) 2 ∙ sym (mul-assoc 2 Q (2 ^ 1074)))
+    round-same binary64 false Q (1 * 2 ^ 1074) (2 * Q) (2 ^ 1075) (pow-pos 1074) (pow-pos 1075)
+    (sym (mul-assoc Q (2 ^ 1074) 2) ∙ mul-comm (Q * 2 ^ 1074) 2 ∙ sym (mul-assoc 2 Q (2 ^ 1074)))
     ∙ ap (λ (x : ℕ). round binary64 false x (2 ^ 1075)) (sym (ap (λ (b : Bool). 2 * Q + cond b 0 1) (eq-eqb (Q * Q) n e) ∙ add-zero (2 * Q)))
 
 -- Q + 1 / 2 P and P - 1 / 2 P, where P is Q + 1, where √n lies between Q and P
@@ -240,10 +251,14 @@ module _ (n Q : ℕ) (is : IsRoot n Q) (big : 2 ^ 53 ≤ Q) (ns : Q * Q ≡ n �
           go s h g = omega arith
 
       least : Q * P * (Q * P) + P * P ≤ n * (P * P)
-      least = le-trans (le-of-eq (sym (add-mul (Q * Q) 1 (P * P) ∙ ap₂ (λ (x y : ℕ). x + y) (mul-mul-mul-comm Q Q P P) (one-mul (P * P))))) (mul-le-mul-right (P * P) next)
+      least =
+          le-trans (le-of-eq (sym (add-mul (Q * Q) 1 (P * P) ∙ ap₂ (λ (x y : ℕ). x + y) (mul-mul-mul-comm Q Q P P) (one-mul (P * P)))))
+          (mul-le-mul-right (P * P) next)
 
       square : (2 * (Q * P) + 1) * (2 * (Q * P) + 1) ≤ n * (k * k)
-      square = rw (next-square (2 * (Q * P)), double (Q * P) (Q * P), k-square, ← mul-assoc n (P * P) 4) (go (Q * P) (Q * P * (Q * P)) (P * P) (n * (P * P)) P-square least)
+      square =
+          rw (next-square (2 * (Q * P)), double (Q * P) (Q * P), k-square, ← mul-assoc n (P * P) 4)
+          (go (Q * P) (Q * P * (Q * P)) (P * P) (n * (P * P)) P-square least)
         where
           go : (u w s z : ℕ) → s ≡ u + (Q + 1) → w + s ≤ z → w * 4 + 2 * (2 * u) + 1 ≤ z * 4
           go u w s z e h = omega arith
@@ -268,7 +283,10 @@ module _ (n Q : ℕ) (is : IsRoot n Q) (big : 2 ^ 53 ≤ Q) (ns : Q * Q ≡ n �
       next b e = sym (next-square b) ∙ ap (λ (x : ℕ). x * x) e ∙ double (P * P) (P * P)
 
       square : n * (k * k) ≤ (2 * (Q * P) + (2 * Q + 1)) * (2 * (Q * P) + (2 * Q + 1))
-      square = rw (k-square, ← mul-assoc n (P * P) 4) (go (2 * (Q * P) + (2 * Q + 1)) ((2 * (Q * P) + (2 * Q + 1)) * (2 * (Q * P) + (2 * Q + 1))) (P * P) (n * (P * P)) (P * P * (P * P)) twice (next (2 * (Q * P) + (2 * Q + 1)) twice) most)
+      square =
+          rw (k-square, ← mul-assoc n (P * P) 4)
+          (go (2 * (Q * P) + (2 * Q + 1)) ((2 * (Q * P) + (2 * Q + 1)) * (2 * (Q * P) + (2 * Q + 1))) (P * P) (n * (P * P)) (P * P * (P * P))
+          twice (next (2 * (Q * P) + (2 * Q + 1)) twice) most)
         where
           twice : 2 * (Q * P) + (2 * Q + 1) + 1 ≡ 2 * (P * P)
           twice = up (Q * P) (P * P) P-square

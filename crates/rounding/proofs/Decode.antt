@@ -2,7 +2,8 @@
 use mathlib.Core.Path.{_≡_, sym, ap, _∙_, subst}
 use mathlib.Core.Bool.{Bool, true, false, cond}
 use Prim.Native.Nat.{ℕ, zero, suc, _+_, _-_, _*_, _/_, _%_, _^_, _≤_, _<_}
-use native.Mathlib.Nat.{le-trans, le-of-eq, lt-of-lt-of-le, lt-of-le-of-lt, lt-of-not-le, not-le-of-lt, le-add-right, le-add-left, lt-irrefl, add-zero, mul-assoc, mul-one, mul-le-mul-right, mod-lt, mod-eq-of-lt, add-mod-right, mul-mod-left, add-mul-mod-self-right}
+use native.Mathlib.Nat.{le-trans, le-of-eq, lt-of-lt-of-le, lt-of-le-of-lt, lt-of-not-le, not-le-of-lt, le-add-right, le-add-left, lt-irrefl, add-zero}
+use native.Mathlib.Nat.{mul-assoc, mul-one, mul-le-mul-right, mod-lt, mod-eq-of-lt, add-mod-right, mul-mod-left, add-mul-mod-self-right}
 use native.Mathlib.Omega.{arith}
 use lib.Dec.{leb, eqb, le→leb, eqb→eq, not-T, lit≤}
 use lib.Arith.{lt→nleb}
@@ -20,7 +21,8 @@ use Rattle.rounding.proofs.Whole.{rescale}
 by-fields : (b : ℕ) (s : Bool) → b < 2 ^ 63 → ofBits binary64 (b + cond s (2 ^ 63) 0) ≡ ofFields binary64 s (b / 2 ^ 52) (b % 2 ^ 52)
 unfolding ofBits
 by-fields b true h =
-    ap (λ (t : Bool). ofFields binary64 t ((b + 2 ^ 63) % 2 ^ 63 / 2 ^ 52) ((b + 2 ^ 63) % 2 ^ 52)) (is-true (leb (2 ^ 63) (b + 2 ^ 63)) (le→leb (2 ^ 63) (b + 2 ^ 63) (le-add-left (2 ^ 63) b)))
+    ap (λ (t : Bool). ofFields binary64 t ((b + 2 ^ 63) % 2 ^ 63 / 2 ^ 52) ((b + 2 ^ 63) % 2 ^ 52))
+    (is-true (leb (2 ^ 63) (b + 2 ^ 63)) (le→leb (2 ^ 63) (b + 2 ^ 63) (le-add-left (2 ^ 63) b)))
     ∙ ap (λ (x : ℕ). ofFields binary64 true (x / 2 ^ 52) ((b + 2 ^ 63) % 2 ^ 52)) (add-mod-right b (2 ^ 63) ∙ mod-eq-of-lt h)
     ∙ ap (λ (x : ℕ). ofFields binary64 true (b / 2 ^ 52) x) (add-mul-mod-self-right b (2 ^ 11) (2 ^ 52))
 by-fields b false h =
@@ -38,7 +40,8 @@ unfolding ofFields
 mid-fields s zero t p h = absurd (lt-irrefl 0 p)
 mid-fields s (suc x) t p h =
     subst (λ (v : Float). HasValue v s ((2 ^ 52 + t) * 2 ^ (suc x - 1)) (2 ^ 1074))
-    (sym (cond-no (eqb (suc x) 2047) (cond (eqb t 0) (inf s) nan) (odd 53 s (2 ^ 52 + t) x 1074) (not-T (eqb (suc x) 2047) (λ u. other (suc x) (eqb→eq (suc x) 2047 u) h))))
+    (sym (cond-no (eqb (suc x) 2047) (cond (eqb t 0) (inf s) nan) (odd 53 s (2 ^ 52 + t) x 1074)
+    (not-T (eqb (suc x) 2047) (λ u. other (suc x) (eqb→eq (suc x) 2047 u) h))))
     (subst (λ (k : ℕ). HasValue (odd 53 s (2 ^ 52 + t) x 1074) s ((2 ^ 52 + t) * 2 ^ k) (2 ^ 1074)) (less x) (odd-sign 53 s (2 ^ 52 + t) x 1074))
   where
     other : (y : ℕ) → y ≡ 2047 → y < 2047 → ⊥
@@ -95,9 +98,12 @@ module _ (b : ℕ) (pos : 0 < b) (f : b / 2 ^ 52 ≡ 0) where
       let e1 : j + (z - 1) ≡ 62 = sum1 j z (p .1) (zz .0) in
       let least : 2 ^ 62 ≤ m = subst (λ (x : ℕ). 2 ^ x ≤ m) e1 (le-trans (le-of-eq (pow-add 2 j (z - 1))) (mul-le-mul-right (2 ^ (z - 1)) (p .2))) in
       let most : m < 2 ^ 63 = subst (λ (x : ℕ). m < 2 ^ x) (sum2 j z (p .1) (zz .0)) (shl-lt (suc j) (z - 1) (p .3)) in
-      let even : m ≡ t * 2 ^ (z - 11) * 1024 = ap (λ (x : ℕ). t * 2 ^ x) (sum3 z (zz .0)) ∙ ap (λ (x : ℕ). t * x) (pow-add 2 (z - 11) 10) ∙ sym (mul-assoc t (2 ^ (z - 11)) 1024) in
+      let even : m ≡ t * 2 ^ (z - 11) * 1024 =
+      ap (λ (x : ℕ). t * 2 ^ x) (sum3 z (zz .0)) ∙ ap (λ (x : ℕ). t * x) (pow-add 2 (z - 11) 10) ∙ sym (mul-assoc t (2 ^ (z - 11)) 1024) in
       let whole : m % 1024 ≡ 0 = ap (λ (x : ℕ). x % 1024) even ∙ mul-mod-left (t * 2 ^ (z - 11)) 1024 in
-      let back : m * 2 ^ (62 - (z - 1)) ≡ t * 2 ^ 62 = mul-assoc t (2 ^ (z - 1)) (2 ^ (62 - (z - 1))) ∙ ap (λ (x : ℕ). t * x) (sym (pow-add 2 (z - 1) (62 - (z - 1))) ∙ ap (λ (x : ℕ). 2 ^ x) (sum4 z (zz .1))) in
+      let back : m * 2 ^ (62 - (z - 1)) ≡ t * 2 ^ 62 =
+      mul-assoc t (2 ^ (z - 1)) (2 ^ (62 - (z - 1)))
+      ∙ ap (λ (x : ℕ). t * x) (sym (pow-add 2 (z - 1) (62 - (z - 1))) ∙ ap (λ (x : ℕ). 2 ^ x) (sum4 z (zz .1))) in
       subst (λ (x : ℕ). Taken b x (62 - (z - 1))) (sym (mod-eq-of-lt (lt-of-lt-of-le most (lit≤ tt)))) (record {
         least = least;
         most = most;
@@ -129,8 +135,11 @@ module _ (b : ℕ) (pos : 0 < b) (f : b / 2 ^ 52 ≡ 0) where
   pub zeros-masked : (12 ≤ leadingZeros 64 (bitAnd b (2 ^ 52 - 1))) × (leadingZeros 64 (bitAnd b (2 ^ 52 - 1)) ≤ 63)
   zeros-masked = subst (λ (x : ℕ). (12 ≤ leadingZeros 64 x) × (leadingZeros 64 x ≤ 63)) (sym (masked b)) (zeros (leadingZeros 64 t) top)
 
-  pub taken-masked : Taken b (bitAnd b (2 ^ 52 - 1) * 2 ^ (leadingZeros 64 (bitAnd b (2 ^ 52 - 1)) - 1) % 2 ^ 64) (62 - (leadingZeros 64 (bitAnd b (2 ^ 52 - 1)) - 1))
-  taken-masked = subst (λ (x : ℕ). Taken b (x * 2 ^ (leadingZeros 64 x - 1) % 2 ^ 64) (62 - (leadingZeros 64 x - 1))) (sym (masked b)) (taken-low (leadingZeros 64 t) top)
+  pub taken-masked : Taken b (bitAnd b (2 ^ 52 - 1) * 2 ^ (leadingZeros 64 (bitAnd b (2 ^ 52 - 1)) - 1) % 2 ^ 64)
+      (62 - (leadingZeros 64 (bitAnd b (2 ^ 52 - 1)) - 1))
+  taken-masked =
+      subst (λ (x : ℕ). Taken b (x * 2 ^ (leadingZeros 64 x - 1) % 2 ^ 64) (62 - (leadingZeros 64 x - 1))) (sym (masked b))
+      (taken-low (leadingZeros 64 t) top)
 
 -- ---- a normal float
 module _ (b : ℕ) (h : b < 0x7ff0_0000_0000_0000) (n : b / 2 ^ 52 ≡ 0 → ⊥) where
@@ -182,6 +191,9 @@ module _ (b : ℕ) (h : b < 0x7ff0_0000_0000_0000) (n : b / 2 ^ 52 ≡ 0 → ⊥
     most = most;
     whole = mul-mod-left (2 ^ 52 + d) 1024;
     far = far (b / 2 ^ 52) x-lt;
-    value = λ (s : Bool). subst (λ (v : Float). HasValue v s ((2 ^ 52 + d) * 1024 * 2 ^ (b / 2 ^ 52 + 51)) (2 ^ 1136)) (sym (by-fields b s (lt-of-lt-of-le h (lit≤ tt))))
-        (to-1136 (ofFields binary64 s (b / 2 ^ 52) d) s ((2 ^ 52 + d) * 2 ^ (b / 2 ^ 52 - 1)) ((2 ^ 52 + d) * 1024 * 2 ^ (b / 2 ^ 52 + 51)) (same (b / 2 ^ 52) x-pos) (mid-fields s (b / 2 ^ 52) d x-pos x-lt));
+    value =
+        λ (s : Bool). subst (λ (v : Float). HasValue v s ((2 ^ 52 + d) * 1024 * 2 ^ (b / 2 ^ 52 + 51)) (2 ^ 1136))
+        (sym (by-fields b s (lt-of-lt-of-le h (lit≤ tt))))
+        (to-1136 (ofFields binary64 s (b / 2 ^ 52) d) s ((2 ^ 52 + d) * 2 ^ (b / 2 ^ 52 - 1)) ((2 ^ 52 + d) * 1024 * 2 ^ (b / 2 ^ 52 + 51))
+        (same (b / 2 ^ 52) x-pos) (mid-fields s (b / 2 ^ 52) d x-pos x-lt));
   })

@@ -1,5 +1,5 @@
--- The digits of a square root, one a turn. The invariant, with k turns to go and G = 2 ^ k: s is twice the digits found so far, t is s + G, and ix is what w * 2 ^ 56 is more than s * s, in units of 4 * G.
--- Assumes nothing.
+-- The digits of a square root, one a turn. The invariant, with k turns to go and G = 2 ^ k: s is twice the digits found so far, t is s + G,
+-- and ix is what w * 2 ^ 56 is more than s * s, in units of 4 * G. Assumes nothing.
 use mathlib.Core.Path.{_≡_, refl, sym, ap, _∙_, subst}
 use mathlib.Core.Logic.{_⊎_, inl, inr}
 use Prim.Native.Nat.{ℕ, zero, suc, _+_, _-_, _*_, _/_, _%_, _^_, _≤_, _<_}
@@ -45,7 +45,8 @@ opened w ix t h g i v l = go (v .k) (v .power) (v .turn)
     twice : (G P h : ℕ) → G ≡ P * 2 → h ≡ P → G ≡ 2 * h
     twice G P h a b = omega arith
 
-    with-half : (G j : ℕ) → G ≡ 2 * h → h ≡ 2 ^ j → suc j + i ≡ 53 → g ≡ 3 * G / 2 → v .s + G ≡ t → t + 3 * G ≤ 2 ^ 55 → ix < 2 * t + 2 * G → v .s * v .s + 4 * (G * ix) ≡ w * 2 ^ 56
+    with-half : (G j : ℕ) → G ≡ 2 * h → h ≡ 2 ^ j → suc j + i ≡ 53 → g ≡ 3 * G / 2 → v .s + G ≡ t → t + 3 * G ≤ 2 ^ 55
+        → ix < 2 * t + 2 * G → v .s * v .s + 4 * (G * ix) ≡ w * 2 ^ 56
         → Turn w ix t h g i
     with-half G j q p a c d e f x = record {
       j = j;
@@ -166,7 +167,8 @@ small w ix t h g i v = go (v .s) (v .at) (v .room) (v .rest) (v .more) (pos (v .
     go s a b c e f = (omega arith, omega arith, omega arith, omega arith)
 
 pub again : (w ix t h g i t' y d : ℕ) → Turn w ix t h g i → d < 2 ^ 64 → (d + t) % 2 ^ 64 ≡ ix
-    → ((t ≤ ix) × (t' ≡ t + g)) ⊎ ((ix < t) × (t' ≡ t - h)) → ((d < 2 ^ 63) × (y ≡ d)) ⊎ ((2 ^ 63 ≤ d) × (y ≡ ix)) → Inv w (y * 2 % 2 ^ 64) t' (h / 2) (g / 2) (i + 1)
+    → ((t ≤ ix) × (t' ≡ t + g)) ⊎ ((ix < t) × (t' ≡ t - h)) → ((d < 2 ^ 63) × (y ≡ d)) ⊎ ((2 ^ 63 ≤ d) × (y ≡ ix))
+    → Inv w (y * 2 % 2 ^ 64) t' (h / 2) (g / 2) (i + 1)
 again w ix t h g i t' y d v D e = go
   where
     ranges : (ix < 2 ^ 57) × (t < 2 ^ 55) × (h ≤ t) × (t + g < 2 ^ 64)
@@ -175,13 +177,16 @@ again w ix t h g i t' y d v D e = go
     below : (d t ix : ℕ) → d + t ≡ ix → ix < 2 ^ 57 → d < 2 ^ 57
     below d t ix e h = omega arith
 
-    go : ((t ≤ ix) × (t' ≡ t + g)) ⊎ ((ix < t) × (t' ≡ t - h)) → ((d < 2 ^ 63) × (y ≡ d)) ⊎ ((2 ^ 63 ≤ d) × (y ≡ ix)) → Inv w (y * 2 % 2 ^ 64) t' (h / 2) (g / 2) (i + 1)
+    go : ((t ≤ ix) × (t' ≡ t + g)) ⊎ ((ix < t) × (t' ≡ t - h)) → ((d < 2 ^ 63) × (y ≡ d)) ⊎ ((2 ^ 63 ≤ d) × (y ≡ ix))
+        → Inv w (y * 2 % 2 ^ 64) t' (h / 2) (g / 2) (i + 1)
     go (inl a) (inl b) =
         let s : d + t ≡ ix = straight ix t d (ranges .0) D e (a .0) in
-        again-yes w ix t h g i t' (y * 2 % 2 ^ 64) v d s (a .1) (shifted d (y * 2 % 2 ^ 64) (below d t ix s (ranges .0)) (ap (λ (z : ℕ). z * 2 % 2 ^ 64) (b .1)))
+        again-yes w ix t h g i t' (y * 2 % 2 ^ 64) v d s (a .1)
+        (shifted d (y * 2 % 2 ^ 64) (below d t ix s (ranges .0)) (ap (λ (z : ℕ). z * 2 % 2 ^ 64) (b .1)))
     go (inl a) (inr b) = absurd (no d (not-wrapped ix t d (ranges .0) (straight ix t d (ranges .0) D e (a .0))) (b .0))
     go (inr a) (inl b) = absurd (no d (b .0) (wrapped ix t d (ranges .1) D e (a .0)))
-    go (inr a) (inr b) = again-no w ix t h g i t' (y * 2 % 2 ^ 64) v (a .0) (a .1) (shifted ix (y * 2 % 2 ^ 64) (ranges .0) (ap (λ (z : ℕ). z * 2 % 2 ^ 64) (b .1)))
+    go (inr a) (inr b) =
+        again-no w ix t h g i t' (y * 2 % 2 ^ 64) v (a .0) (a .1) (shifted ix (y * 2 % 2 ^ 64) (ranges .0) (ap (λ (z : ℕ). z * 2 % 2 ^ 64) (b .1)))
 
 -- ---- at the end G is 1, and s is even, since s * s is
 record End (w ix t : ℕ) : Type 0 where
@@ -290,11 +295,11 @@ module _ (w ix t h g i : ℕ) (v : Inv w ix t h g i) where
       go : (t G : ℕ) → t + 3 * G ≤ 2 ^ 55 → t + 1 < 2 ^ 64
       go t G h = omega arith
 
-  pub end-down : 53 ≤ i → 1 ≤ t
-  end-down l = go t (ended w ix t h g i v l .q) (ended w ix t h g i v l .at)
+  pub end-down : 1 ≤ t
+  end-down = go t (v .s) (v .G) (subst (λ (x : ℕ). 0 < x) (sym (v .power)) (pow-pos (v .k))) (v .at)
     where
-      go : (t q : ℕ) → t ≡ 2 * q + 1 → 1 ≤ t
-      go t q e = omega arith
+      go : (t s G : ℕ) → 0 < G → s + G ≡ t → 1 ≤ t
+      go t s G h e = omega arith
 
   pub out-yes : 53 ≤ i → t ≤ ix → IsRoot (w * 2 ^ 54) ((t + 1) / 2)
   out-yes l = end-yes w ix t (ended w ix t h g i v l)

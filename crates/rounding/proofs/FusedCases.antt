@@ -18,7 +18,8 @@ use borrow.Author.Tests.{eqb-true, eqb-false}
 use Rattle.rounding.specs.Fused.{product, fused}
 use Rattle.rounding.specs.Near.{Fuses}
 use Rattle.rounding.proofs.Special.{fused-nan-x, fused-nan-y, fused-nan-z, fused-infinite-x, fused-infinite-y, fused-infinite-z}
-use Rattle.rounding.proofs.Whole.{rescale, written}
+use Rattle.float.proofs.Itself.{bits-of-value}
+use Rattle.rounding.proofs.Whole.{rescale}
 use Rattle.rounding.proofs.RootCases.{real, yes}
 use Rattle.rounding.proofs.Sums.{like, more}
 use Rattle.rounding.proofs.Products.{scale, product-own, add-values, fused-is}
@@ -68,7 +69,7 @@ module _ (x : Float) (F : T (fits binary64 x)) where
       go true h = set B (eqb-true (B / 2 ^ 63) 1 h)
       go false h = clear B B-lt (eqb-false (B / 2 ^ 63) 1 h)
 
-  pub back : ofBits binary64 (mag x + cond (sign x) (2 ^ 63) 0) ≡ x
+  back : ofBits binary64 (mag x + cond (sign x) (2 ^ 63) 0) ≡ x
   back = ap (λ (b : ℕ). ofBits binary64 b) whole ∙ ofBits-toBits binary64 x F
 
   pub at-inf : mag x ≡ 0x7ff0_0000_0000_0000 → x ≡ inf (sign x)
@@ -94,7 +95,8 @@ pub mag-pos : (a : ℕ) → (a ≡ 0 → ⊥) → 0 < a
 mag-pos a n = omega arith
 
 -- the product's sign, as the program compares the two bits
-pub signs : (x y : Float) → T (fits binary64 x) → T (fits binary64 y) → unlike (sign x) (sign y) ≡ not (eqb (toBits binary64 x / 2 ^ 63) (toBits binary64 y / 2 ^ 63))
+signs : (x y : Float) → T (fits binary64 x) → T (fits binary64 y)
+    → unlike (sign x) (sign y) ≡ not (eqb (toBits binary64 x / 2 ^ 63) (toBits binary64 y / 2 ^ 63))
 signs x y F G = go (toBits binary64 x / 2 ^ 63) (toBits binary64 y / 2 ^ 63) (bit (toBits binary64 x) (B-lt x F)) (bit (toBits binary64 y) (B-lt y G))
   where
     bit : (b : ℕ) → b < 2 ^ 64 → b / 2 ^ 63 < 2
@@ -152,7 +154,8 @@ zero-value X s a c k z C v = rescale X s a c 0 k C (zero-mul c ∙ sym (ap (λ (
 round-zero : (s : Bool) (a c : ℕ) → a ≡ 0 → 0 < c → HasValue (round binary64 s a c) s a c
 round-zero s a c z C = round-exact binary64 s a c 0 0 C (lit< tt) (lit< tt) (ap (λ (x : ℕ). x * 2 ^ 1074) z ∙ zero-mul (2 ^ 1074) ∙ sym (zero-mul c))
 
-mul-is : (s : Bool) (m : ℕ) (e : ℤ) (t : Bool) (n : ℕ) (d : ℤ) → mul binary64 (fin s m e) (fin t n d) ≡ round binary64 (unlike s t) (m * up e * (n * up d)) (down e * down d)
+mul-is : (s : Bool) (m : ℕ) (e : ℤ) (t : Bool) (n : ℕ) (d : ℤ)
+    → mul binary64 (fin s m e) (fin t n d) ≡ round binary64 (unlike s t) (m * up e * (n * up d)) (down e * down d)
 unfolding mul
 mul-is s m e t n d = refl
 
@@ -163,8 +166,13 @@ zero-product s m e t n d u p g z =
     let a = m * up e * (n * up d) in
     let az : a ≡ 0 = mul-mul-mul-comm m (up e) n (up d) ∙ ap (λ (x : ℕ). x * (up e * up d)) z ∙ zero-mul (up e * up d) in
     let D : 0 < down e * down d = mul-pos (down-pos e) (down-pos d) in
-    let v1 : HasValue (mul binary64 (fin s m e) (fin t n d)) (unlike s t) 0 c = subst (λ (X : Float). HasValue X (unlike s t) 0 c) (sym (mul-is s m e t n d)) (zero-value (round binary64 (unlike s t) a (down e * down d)) (unlike s t) a (down e * down d) c az D (round-zero (unlike s t) a (down e * down d) az D)) in
-    let v2 : HasValue (product (fin s m e) (fin t n d)) (unlike s t) 0 c = zero-value (product (fin s m e) (fin t n d)) (unlike s t) (m * n * up (e +ℤ d)) (down (e +ℤ d)) c (ap (λ (x : ℕ). x * up (e +ℤ d)) z ∙ zero-mul (up (e +ℤ d))) (down-pos (e +ℤ d)) (product-own s m e t n d) in
+    let v1 : HasValue (mul binary64 (fin s m e) (fin t n d)) (unlike s t) 0 c =
+    subst (λ (X : Float). HasValue X (unlike s t) 0 c) (sym (mul-is s m e t n d))
+    (zero-value (round binary64 (unlike s t) a (down e * down d)) (unlike s t) a (down e * down d) c az D
+    (round-zero (unlike s t) a (down e * down d) az D)) in
+    let v2 : HasValue (product (fin s m e) (fin t n d)) (unlike s t) 0 c =
+    zero-value (product (fin s m e) (fin t n d)) (unlike s t) (m * n * up (e +ℤ d)) (down (e +ℤ d)) c
+    (ap (λ (x : ℕ). x * up (e +ℤ d)) z ∙ zero-mul (up (e +ℤ d))) (down-pos (e +ℤ d)) (product-own s m e t n d) in
     add-values (mul binary64 (fin s m e) (fin t n d)) (fin u p g) (unlike s t) u 0 (p * up g) c (down-pos g) v1 (refl, refl)
     ∙ sym (add-values (product (fin s m e) (fin t n d)) (fin u p g) (unlike s t) u 0 (p * up g) c (down-pos g) v2 (refl, refl))
     ∙ sym (fused-is (fin s m e) (fin t n d) (fin u p g))
@@ -205,10 +213,14 @@ zero-addend : (s : Bool) (m : ℕ) (e : ℤ) (t : Bool) (n : ℕ) (d : ℤ) (u :
 zero-addend s m e t n d u h =
     let k = e +ℤ d in
     sym (fused-is (fin s m e) (fin t n d) (fin u 0 (pos 0))
-    ∙ add-values (product (fin s m e) (fin t n d)) (fin u 0 (pos 0)) (unlike s t) u (m * n * up k) 0 (down k) (down-pos k) (product-own s m e t n d) (refl, zero-mul (down k))
+    ∙ add-values (product (fin s m e) (fin t n d)) (fin u 0 (pos 0)) (unlike s t) u (m * n * up k) 0 (down k) (down-pos k)
+    (product-own s m e t n d) (refl, zero-mul (down k))
     ∙ sum-zero (unlike s t) u (m * n * up k) 0 (down k) refl (mul-pos h (up-pos k))
     ∙ round-same binary64 (unlike s t) (m * n * up k) (down k) (m * up e * (n * up d)) (down e * down d) (down-pos k) (mul-pos (down-pos e) (down-pos d))
-    (mul-assoc (m * n) (up k) (down e * down d) ∙ ap (λ (x : ℕ). m * n * x) (scale e d) ∙ sym (mul-assoc (m * n) (up e * up d) (down k)) ∙ ap (λ (x : ℕ). x * down k) (mul-mul-mul-comm m n (up e) (up d)))
+    (mul-assoc (m * n) (up k) (down e * down d)
+    ∙ ap (λ (x : ℕ). m * n * x) (scale e d)
+    ∙ sym (mul-assoc (m * n) (up e * up d) (down k))
+    ∙ ap (λ (x : ℕ). x * down k) (mul-mul-mul-comm m n (up e) (up d)))
     ∙ sym (mul-is s m e t n d))
 
 sized : (s : Bool) → bitAnd (cond s (2 ^ 63) 0 + (size 0 - 53) * 2 ^ 52 + 0 / 2 ^ (size 0 - 53)) 0x7fff_ffff_ffff_ffff ≡ 0
@@ -217,7 +229,16 @@ sized true = and-mask (2 ^ 63) 63
 sized false = and-mask 0 63
 
 zero-mag : (s : Bool) (m : ℕ) (e : ℤ) → m ≡ 0 → mag (fin s m e) ≡ 0
-zero-mag s m e z = ap (λ (b : ℕ). bitAnd b 0x7fff_ffff_ffff_ffff) (written (fin s m e) s 0 (refl, ap (λ (x : ℕ). x * up e * 2 ^ 1074) z ∙ ap (λ (x : ℕ). x * 2 ^ 1074) (zero-mul (up e)) ∙ zero-mul (2 ^ 1074) ∙ sym (zero-mul (down e)))) ∙ sized s
+zero-mag s m e z =
+    ap (λ (b : ℕ). bitAnd b 0x7fff_ffff_ffff_ffff)
+    (bits-of-value (fin s m e) s 0 (
+      refl,
+      ap (λ (x : ℕ). x * up e * 2 ^ 1074) z
+          ∙ ap (λ (x : ℕ). x * 2 ^ 1074) (zero-mul (up e))
+          ∙ zero-mul (2 ^ 1074)
+          ∙ sym (zero-mul (down e)),
+    ))
+    ∙ sized s
 
 nonzero : (x : Float) (a : Finite x) → (mag x ≡ 0 → ⊥) → 0 < a .1
 nonzero x a n = go (eq-zero-or-pos (a .1))
@@ -226,14 +247,16 @@ nonzero x a n = go (eq-zero-or-pos (a .1))
     go (inl z) = absurd (n (ap mag (a .3) ∙ zero-mag (a .0) (a .1) (a .2) z))
     go (inr p) = p
 
-pub z-zero : (x y z : Float) (u : Bool) → (a : Finite x) → (b : Finite y) → (mag x ≡ 0 → ⊥) → (mag y ≡ 0 → ⊥) → z ≡ fin u 0 (pos 0) → mul binary64 x y ≡ fused x y z
+pub z-zero : (x y z : Float) (u : Bool) → (a : Finite x) → (b : Finite y) → (mag x ≡ 0 → ⊥) → (mag y ≡ 0 → ⊥) → z ≡ fin u 0 (pos 0)
+    → mul binary64 x y ≡ fused x y z
 z-zero x y z u a b p q h =
     ap₂ (λ (v w : Float). mul binary64 v w) (a .3) (b .3)
     ∙ zero-addend (a .0) (a .1) (a .2) (b .0) (b .1) (b .2) u (mul-pos (nonzero x a p) (nonzero y b q))
     ∙ sym (ap₂ (λ (v w : Float). fused v w z) (a .3) (b .3) ∙ ap (λ (w : Float). fused (fin (a .0) (a .1) (a .2)) (fin (b .0) (b .1) (b .2)) w) h)
 
 -- ---- none of these: the three floats by their bits
-pub whole-fused : (x y z r : Float) → T (fits binary64 x) → T (fits binary64 y) → T (fits binary64 z) → (na : Bool) → na ≡ not (eqb (toBits binary64 x / 2 ^ 63) (toBits binary64 y / 2 ^ 63))
+pub whole-fused : (x y z r : Float) → T (fits binary64 x) → T (fits binary64 y) → T (fits binary64 z) → (na : Bool)
+    → na ≡ not (eqb (toBits binary64 x / 2 ^ 63) (toBits binary64 y / 2 ^ 63))
     → Fuses na (mag x) (mag y) (sign z) (mag z) r → r ≡ fused x y z
 whole-fused x y z r F G H na h f =
     f (sign x) (sign y) (signs x y F G ∙ sym h)

@@ -15,5 +15,4 @@ pub mod FusedCases
 pub mod Between
 pub mod Meaning
 pub mod MeaningFused
-pub mod Examples
 pub mod Unique

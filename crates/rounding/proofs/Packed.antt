@@ -3,16 +3,16 @@ use mathlib.Core.Path.{_≡_, refl, sym, ap, ap₂, _∙_, subst}
 use mathlib.Core.Logic.{_⊎_, inl, inr}
 use mathlib.Core.Bool.{Bool, true, false, not, cond}
 use Prim.Native.Nat.{ℕ, zero, suc, _+_, _-_, _*_, _/_, _^_, _≤_, _<_}
-use native.Mathlib.Nat.{le-refl, le-trans, le-of-eq, lt-of-lt-of-le, lt-of-le-of-lt, lt-of-not-le, not-le-of-lt, eq-or-lt-of-le, mul-le-mul-right, mul-div-cancel}
+use native.Mathlib.Nat.{le-refl, le-trans, le-of-eq, lt-of-lt-of-le, lt-of-le-of-lt, not-le-of-lt, eq-or-lt-of-le, mul-le-mul-right, mul-div-cancel}
 use native.Mathlib.Omega.{arith}
 use lib.Dec.{T, ltb, ltb→lt, lt→ltb, nltb→le, lit<}
 use lib.Pow.{pow-add, pow-pos, pow-mono, pow-lt, shl-lt}
 use lib.Ieee.{inf, binary64, size, odd, units, fits, isNan, ofBits, toBits, nanBits}
-use lib.Ieee.Digits.{size-lt, size-le}
+use lib.Ieee.Digits.{size-le}
 use lib.Ieee.Fits.{odd-fits}
 use lib.Ieee.Bits.{ofBits-toBits, nanBits-is}
 use lib.Ieee.Exact.{odd-sign}
-use Rattle.rounding.proofs.Whole.{written}
+use Rattle.float.proofs.Itself.{bits-of-value}
 use Rattle.rounding.proofs.Sticky.{size-gt}
 
 -- ---- q * 2 ^ k, in the two fields
@@ -77,11 +77,12 @@ inf-bits false = refl
 regroup : (c x y b : ℕ) → x + y ≡ b → c + x + y ≡ b + c
 regroup c x y b e = omega arith
 
-finite-bits : (s : Bool) (q k : ℕ) → q ≤ 2 ^ 53 → (k ≡ 0) ⊎ (2 ^ 52 ≤ q) → q * 2 ^ k < 2 ^ 2098 → ofBits binary64 (k * 2 ^ 52 + q + cond s (2 ^ 63) 0) ≡ units binary64 s q k
+finite-bits : (s : Bool) (q k : ℕ) → q ≤ 2 ^ 53 → (k ≡ 0) ⊎ (2 ^ 52 ≤ q) → q * 2 ^ k < 2 ^ 2098
+    → ofBits binary64 (k * 2 ^ 52 + q + cond s (2 ^ 63) 0) ≡ units binary64 s q k
 finite-bits s q k h w l =
     let v = odd 54 s q k 1074 in
     let bits : toBits binary64 v ≡ k * 2 ^ 52 + q + cond s (2 ^ 63) 0 =
-    written v s (q * 2 ^ k) (odd-sign 54 s q k 1074)
+    bits-of-value v s (q * 2 ^ k) (odd-sign 54 s q k 1074)
     ∙ regroup (cond s (2 ^ 63) 0) ((size (q * 2 ^ k) - 53) * 2 ^ 52) (q * 2 ^ k / 2 ^ (size (q * 2 ^ k) - 53)) (k * 2 ^ 52 + q) (fields-of q k h w) in
     let fit : T (fits binary64 v) = odd-fits binary64 54 s q k (lt-of-le-of-lt h (lit< tt)) h l in
     ap (λ (b : ℕ). ofBits binary64 b) (sym bits) ∙ ofBits-toBits binary64 v fit ∙ sym (units-odd s q k l)
@@ -107,7 +108,8 @@ top-only q k h j l = go (eq-or-lt-of-le h) (eq-or-lt-of-le j)
 pub packed : (s : Bool) (q k : ℕ) → q ≤ 2 ^ 53 → (k ≡ 0) ⊎ (2 ^ 52 ≤ q) → k ≤ 2045 → ofBits binary64 (k * 2 ^ 52 + q + cond s (2 ^ 63) 0) ≡ units binary64 s q k
 packed s q k h w j = go (ltb (q * 2 ^ k) (2 ^ 2098)) (ltb→lt (q * 2 ^ k) (2 ^ 2098)) (nltb→le (q * 2 ^ k) (2 ^ 2098))
   where
-    go : (b : Bool) → (T b → q * 2 ^ k < 2 ^ 2098) → (T (not b) → 2 ^ 2098 ≤ q * 2 ^ k) → ofBits binary64 (k * 2 ^ 52 + q + cond s (2 ^ 63) 0) ≡ units binary64 s q k
+    go : (b : Bool) → (T b → q * 2 ^ k < 2 ^ 2098) → (T (not b) → 2 ^ 2098 ≤ q * 2 ^ k)
+        → ofBits binary64 (k * 2 ^ 52 + q + cond s (2 ^ 63) 0) ≡ units binary64 s q k
     go true a b = finite-bits s q k h w (a tt)
     go false a b = ap (λ (x : ℕ). ofBits binary64 (x + cond s (2 ^ 63) 0)) (top-only q k h j (b tt)) ∙ inf-bits s ∙ sym (units-inf s q k (b tt))
 

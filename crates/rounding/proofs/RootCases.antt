@@ -15,7 +15,7 @@ use lib.Ieee.Compare.{differs-from-itself, nan-differs}
 use borrow.Author.Tests.{eq-eqb}
 use Rattle.rounding.specs.Root.{wholeRoot, rootUnits, root}
 use Rattle.rounding.proofs.Special.{root-nan, root-infinity, root-zero, zero-is}
-use Rattle.rounding.proofs.Whole.{written}
+use Rattle.float.proofs.Itself.{bits-of-value}
 
 pub yes : {b : Bool} → b ≡ true → T b
 yes h = subst T (sym h) tt
@@ -89,7 +89,8 @@ one-bits = refl
 
 pub at-one : (x : Float) → T (fits binary64 x) → eq x (ofBits binary64 0x3ff0_0000_0000_0000) ≡ true → x ≡ root x
 at-one x F h =
-    let bits : toBits binary64 x ≡ 0x3ff0_0000_0000_0000 = written x false (2 ^ 1074) (one-value x (ap (λ (z : Float). eq x z) (sym one-is) ∙ h)) ∙ one-bits in
+    let bits : toBits binary64 x ≡ 0x3ff0_0000_0000_0000 =
+    bits-of-value x false (2 ^ 1074) (one-value x (ap (λ (z : Float). eq x z) (sym one-is) ∙ h)) ∙ one-bits in
     subst (λ (y : Float). y ≡ root y) (sym (ap (λ (b : ℕ). ofBits binary64 b) bits) ∙ ofBits-toBits binary64 x F) one-root
 
 -- ---- the infinity
@@ -133,7 +134,8 @@ equals-zero s m e h = go s
 
 under-zero : (m : ℕ) (e : ℤ) → (m ≡ 0 → ⊥) → lt (fin true m e) (fin false 0 (pos 0)) ≡ true
 unfolding lt
-under-zero m e h = go (ltb 0 (m * up e * 1 + 0 * down e)) (lt→ltb 0 (m * up e * 1 + 0 * down e) (more (m * up e) (0 * down e) (mul-pos (pos-of m h) (up-pos e))))
+under-zero m e h =
+    go (ltb 0 (m * up e * 1 + 0 * down e)) (lt→ltb 0 (m * up e * 1 + 0 * down e) (more (m * up e) (0 * down e) (mul-pos (pos-of m h) (up-pos e))))
   where
     pos-of : (m : ℕ) → (m ≡ 0 → ⊥) → 0 < m
     pos-of m h = omega arith
@@ -145,7 +147,8 @@ under-zero m e h = go (ltb 0 (m * up e * 1 + 0 * down e)) (lt→ltb 0 (m * up e 
     go true t = refl
     go false t = absurd t
 
-clear : (x : Float) → T (fits binary64 x) → T (not (isNan x)) → eq x (fin false 0 (pos 0)) ≡ false → lt x (fin false 0 (pos 0)) ≡ false → toBits binary64 x < 2 ^ 63
+clear : (x : Float) → T (fits binary64 x) → T (not (isNan x)) → eq x (fin false 0 (pos 0)) ≡ false
+    → lt x (fin false 0 (pos 0)) ≡ false → toBits binary64 x < 2 ^ 63
 unfolding isNan
 clear nan F r a b = absurd r
 clear (inf true) F r a b = unfold lt in absurd (true≢false b)
@@ -158,7 +161,8 @@ clear (fin true m e) F r a b = absurd (go (eq-zero-or-pos m))
       where
         ne : (m : ℕ) → 0 < m → m ≡ 0 → ⊥
         ne m p z = omega arith
-clear (fin false m e) F r a b = go (toBits binary64 (fin true m e)) (toBits binary64 (fin false m e)) (sign-bit m e) (toBits-lt binary64 (fin true m e) (same-fits m e F))
+clear (fin false m e) F r a b =
+    go (toBits binary64 (fin true m e)) (toBits binary64 (fin false m e)) (sign-bit m e) (toBits-lt binary64 (fin true m e) (same-fits m e F))
   where
     go : (x y : ℕ) → x ≡ 2 ^ 63 + y → x < 2 ^ 64 → y < 2 ^ 63
     go x y h k = omega arith
@@ -192,5 +196,8 @@ module _ (x : Float) (F : T (fits binary64 x)) (r : ne x x ≡ false) (a : eq x 
       last b c e h n = omega arith
 
       some-bits : (bits ≡ 0) ⊎ (0 < bits) → 0 < bits
-      some-bits (inl z) = absurd (true≢false (sym same ∙ ap (λ (y : Float). eq y (ofBits binary64 0)) (sym (sym (ofBits-toBits binary64 x F) ∙ ap (λ (n : ℕ). ofBits binary64 n) z)) ∙ a))
+      some-bits (inl z) =
+          absurd (true≢false (sym same
+          ∙ ap (λ (y : Float). eq y (ofBits binary64 0)) (sym (sym (ofBits-toBits binary64 x F) ∙ ap (λ (n : ℕ). ofBits binary64 n) z))
+          ∙ a))
       some-bits (inr p) = p

@@ -3,7 +3,9 @@ use mathlib.Core.Path.{_≡_, refl, sym, ap, ap₂, _∙_, subst}
 use mathlib.Core.Logic.{_⊎_, inl, inr}
 use mathlib.Core.Bool.{Bool, true, false, not, cond, true≢false}
 use Prim.Native.Nat.{ℕ, zero, suc, _+_, _-_, _*_, _/_, _%_, _^_, _≤_, _<_, zero-le, compare, Ordering, Ordering·lt, Ordering·eq, Ordering·gt}
-use native.Mathlib.Nat.{le-trans, le-of-eq, lt-of-lt-of-le, lt-of-le-of-lt, lt-of-not-le, not-le-of-lt, le-of-suc-le-suc, eq-zero-or-pos, add-zero, add-mul, mul-add, mul-comm, mul-assoc, mul-left-comm, mul-right-comm, mul-mul-mul-comm, mul-one, zero-mul, mul-pos, mul-le-mul, mul-le-mul-left, mul-le-mul-right, mul-lt-mul-of-pos-right, mul-div-cancel, mod-eq-of-lt, pow-suc, div-lt-iff-lt-mul, lt-irrefl}
+use native.Mathlib.Nat.{le-trans, le-of-eq, lt-of-lt-of-le, lt-of-le-of-lt, lt-of-not-le, not-le-of-lt, le-of-suc-le-suc, eq-zero-or-pos, add-zero, add-mul}
+use native.Mathlib.Nat.{mul-add, mul-comm, mul-assoc, mul-left-comm, mul-right-comm, mul-mul-mul-comm, mul-one, zero-mul, mul-pos, mul-le-mul}
+use native.Mathlib.Nat.{mul-le-mul-left, mul-le-mul-right, mul-lt-mul-of-pos-right, mul-div-cancel, mod-eq-of-lt, pow-suc, div-lt-iff-lt-mul, lt-irrefl}
 use native.Mathlib.Omega.{arith}
 use lib.Dec.{T, leb, eqb, leb→le, nleb→lt, eqb→eq, lit<, lit≤}
 use lib.Pow.{pow-add, pow-pos, pow-mono, shl-lt}
@@ -61,7 +63,8 @@ next-root n q lo hi = go (leb ((q + 1) * (q + 1)) n) (leb→le ((q + 1) * (q + 1
 pub whole-root-is : (k n : ℕ) → n < 4 ^ k → IsRoot n (wholeRoot k n)
 unfolding wholeRoot
 whole-root-is zero n h = (zero-le, h)
-whole-root-is (suc k) n h = step (wholeRoot k (n / 4)) (whole-root-is k (n / 4) (div-lt-iff-lt-mul {k = 4} (lit< tt) .1 (subst (λ (x : ℕ). n < x) (pow-suc 4 k) h)))
+whole-root-is (suc k) n h =
+    step (wholeRoot k (n / 4)) (whole-root-is k (n / 4) (div-lt-iff-lt-mul {k = 4} (lit< tt) .1 (subst (λ (x : ℕ). n < x) (pow-suc 4 k) h)))
   where
     low : (n p : ℕ) → p ≤ n / 4 → p * 4 ≤ n
     low n p h = omega arith
@@ -101,7 +104,9 @@ module _ (N q r h Q : ℕ) (e : q * q + r ≡ N) (small : r ≤ 2 * q) (is : IsR
 
   -- q * 2 ^ h ≤ Q < (q + 1) * 2 ^ h
   least : q * p ≤ Q
-  least = le-of-suc-le-suc (lt-le (q * p) Q (sq-lt-back (q * p) (Q + 1) (lt-of-le-of-lt (le-trans (le-of-eq (scaled q h)) (mul-le-mul-right (4 ^ h) (go (q * q) e))) (is .1))))
+  least =
+      le-of-suc-le-suc (lt-le (q * p) Q
+      (sq-lt-back (q * p) (Q + 1) (lt-of-le-of-lt (le-trans (le-of-eq (scaled q h)) (mul-le-mul-right (4 ^ h) (go (q * q) e))) (is .1))))
     where
       go : (s : ℕ) → s + r ≡ N → s ≤ N
       go s e = omega arith
@@ -110,7 +115,10 @@ module _ (N q r h Q : ℕ) (e : q * q + r ≡ N) (small : r ≤ 2 * q) (is : IsR
       lt-le a b h = omega arith
 
   most : Q < (q + 1) * p
-  most = sq-lt-back Q ((q + 1) * p) (lt-of-le-of-lt (is .0) (lt-of-lt-of-le (mul-lt-mul-of-pos-right (go (q * q) ((q + 1) * (q + 1)) e (next-square q)) (four-pos h)) (le-of-eq (sym (scaled (q + 1) h)))))
+  most =
+      sq-lt-back Q ((q + 1) * p)
+      (lt-of-le-of-lt (is .0) (lt-of-lt-of-le (mul-lt-mul-of-pos-right (go (q * q) ((q + 1) * (q + 1)) e (next-square q)) (four-pos h))
+      (le-of-eq (sym (scaled (q + 1) h)))))
     where
       go : (s t : ℕ) → s + r ≡ N → t ≡ s + 2 * q + 1 → N < t
       go s t a b = omega arith
@@ -157,7 +165,9 @@ module _ (N q r h Q : ℕ) (e : q * q + r ≡ N) (small : r ≤ 2 * q) (is : IsR
       left s a b = omega arith
 
       not-square : q * p ≡ Q → Q * Q ≡ n → ⊥
-      not-square a b = lt-irrefl n (lt-of-le-of-lt (le-of-eq (sym b ∙ ap (λ (x : ℕ). x * x) (sym a) ∙ scaled q h)) (mul-lt-mul-of-pos-right (left (q * q) e z) (four-pos h)))
+      not-square a b =
+          lt-irrefl n (lt-of-le-of-lt (le-of-eq (sym b ∙ ap (λ (x : ℕ). x * x) (sym a) ∙ scaled q h))
+          (mul-lt-mul-of-pos-right (left (q * q) e z) (four-pos h)))
 
       go : (o : Ordering) → Cmp o (q * p) Q → 2 * (q * p) < doubled n Q
       go Ordering·lt k = twice-lt (q * p) Q (cond (eqb (Q * Q) n) 0 1) k
@@ -171,7 +181,7 @@ module _ (N q r h Q : ℕ) (e : q * q + r ≡ N) (small : r ≤ 2 * q) (is : IsR
       go true Q t h = omega arith
       go false Q t h = omega arith
 
-  pub root-sticky : Sticky (doubled n Q) (2 ^ h) (marked q r)
+  root-sticky : Sticky (doubled n Q) (2 ^ h) (marked q r)
   root-sticky = go (eqb r 0) refl
     where
       even-is : (q p P : ℕ) → P ≡ 2 * p → q * P ≡ (2 * q + 0) * p
@@ -191,7 +201,7 @@ module _ (N q r h Q : ℕ) (e : q * q + r ≡ N) (small : r ≤ 2 * q) (is : IsR
       go false t = inr (odd-is (doubled n Q) q p (2 ^ (h + 1)) twice (above (λ (z : r ≡ 0). true≢false (sym (eq-eqb r 0 z) ∙ t))) under)
 
 -- ---- the bounds of q, the root of w * 2 ^ 54
-pub root-big : (w q : ℕ) → 2 ^ 52 ≤ w → IsRoot (w * 2 ^ 54) q → 2 ^ 53 ≤ q
+root-big : (w q : ℕ) → 2 ^ 52 ≤ w → IsRoot (w * 2 ^ 54) q → 2 ^ 53 ≤ q
 root-big w q h is = at-least (sq-lt-back (2 ^ 53) (q + 1) (lt-of-le-of-lt (go w h) (is .1)))
   where
     at-least : 2 ^ 53 < q + 1 → 2 ^ 53 ≤ q
@@ -200,7 +210,7 @@ root-big w q h is = at-least (sq-lt-back (2 ^ 53) (q + 1) (lt-of-le-of-lt (go w 
     go : (w : ℕ) → 2 ^ 52 ≤ w → 2 ^ 106 ≤ w * 2 ^ 54
     go w h = omega arith
 
-pub root-small : (w q : ℕ) → w < 2 ^ 54 → IsRoot (w * 2 ^ 54) q → q < 2 ^ 54
+root-small : (w q : ℕ) → w < 2 ^ 54 → IsRoot (w * 2 ^ 54) q → q < 2 ^ 54
 root-small w q h is = sq-lt-back q (2 ^ 54) (lt-of-le-of-lt (is .0) (go w h))
   where
     go : (w : ℕ) → w < 2 ^ 54 → w * 2 ^ 54 < 2 ^ 108
@@ -217,7 +227,7 @@ odd-left w q r e o z = go (q / 2) r w (sym (ap (λ (x : ℕ). x * x + r) (parts 
     go a r w e z = omega arith
 
 -- so a fourth of `marked q r` is nearest to half of q, rounded up
-pub nearest-half : (w q r : ℕ) → q * q + r ≡ w * 2 ^ 54 → closest (marked q r * 512) 2048 ≡ (q + 1) / 2
+nearest-half : (w q r : ℕ) → q * q + r ≡ w * 2 ^ 54 → closest (marked q r * 512) 2048 ≡ (q + 1) / 2
 nearest-half w q r e = by-left (eqb r 0) refl
   where
     down : (q c : ℕ) → c ≤ 1 → q % 2 ≡ 0 → closest ((2 * q + c) * 512) 2048 ≡ (q + 1) / 2
@@ -252,7 +262,9 @@ nearest-half w q r e = by-left (eqb r 0) refl
 
 -- ---- the root of a float of a known value
 no-zero : (m A d : ℕ) (u : ℕ) → 0 < A → 0 < d → m * u * 2 ^ 1136 ≡ A * d → m ≡ 0 → ⊥
-no-zero m A d u h k e z = lt-irrefl 0 (subst (λ (x : ℕ). 0 < x) (sym e ∙ ap (λ (x : ℕ). x * u * 2 ^ 1136) z ∙ ap (λ (x : ℕ). x * 2 ^ 1136) (zero-mul u) ∙ zero-mul (2 ^ 1136)) (mul-pos h k))
+no-zero m A d u h k e z =
+    lt-irrefl 0 (subst (λ (x : ℕ). 0 < x)
+    (sym e ∙ ap (λ (x : ℕ). x * u * 2 ^ 1136) z ∙ ap (λ (x : ℕ). x * 2 ^ 1136) (zero-mul u) ∙ zero-mul (2 ^ 1136)) (mul-pos h k))
 
 pub root-at : (x : Float) (A : ℕ) → 0 < A → HasValue x false A (2 ^ 1136) → root x ≡ rootUnits (A * 2 ^ 1012)
 unfolding root
@@ -317,7 +329,7 @@ module _ (m e q : ℕ) (lo : 2 ^ 62 ≤ m) (hi : m < 2 ^ 63) (whole : m % 1024 �
   w-ge : 2 ^ 52 ≤ w
   w-ge = le-trans d-ge (le-trans (le-of-eq (sym (mul-one d))) (mul-le-mul-left d (pow-pos odd)))
 
-  pub w-lt : w < 2 ^ 54
+  w-lt : w < 2 ^ 54
   w-lt = lt-of-lt-of-le (shl-lt 53 odd d-lt) (pow-mono (go odd bit))
     where
       go : (o : ℕ) → o ≤ 1 → 53 + o ≤ 54
@@ -334,7 +346,10 @@ module _ (m e q : ℕ) (lo : 2 ^ 62 ≤ m) (hi : m < 2 ^ 63) (whole : m % 1024 �
       mul-assoc m (2 ^ e) (2 ^ 1012)
       ∙ ap₂ (λ (x y : ℕ). x * y) m-is (sym (pow-add 2 e 1012))
       ∙ mul-assoc d (2 ^ 10) (2 ^ (e + 1012))
-      ∙ ap (λ (x : ℕ). d * x) (sym (pow-add 2 10 (e + 1012)) ∙ ap (λ (x : ℕ). 2 ^ x) (go e odd half halves) ∙ pow-add 2 (odd + 54) (h + h) ∙ ap₂ (λ (x y : ℕ). x * y) (pow-add 2 odd 54) (sym (four-two h)))
+      ∙ ap (λ (x : ℕ). d * x) (sym (pow-add 2 10 (e + 1012))
+      ∙ ap (λ (x : ℕ). 2 ^ x) (go e odd half halves)
+      ∙ pow-add 2 (odd + 54) (h + h)
+      ∙ ap₂ (λ (x y : ℕ). x * y) (pow-add 2 odd 54) (sym (four-two h)))
       ∙ sym (mul-assoc d (2 ^ odd * 2 ^ 54) (4 ^ h))
       ∙ ap (λ (x : ℕ). x * 4 ^ h) (sym (mul-assoc d (2 ^ odd) (2 ^ 54)))
     where
@@ -342,22 +357,24 @@ module _ (m e q : ℕ) (lo : 2 ^ 62 ≤ m) (hi : m < 2 ^ 63) (whole : m % 1024 �
       go e o k a = omega arith
 
   n-lt : m * 2 ^ e * 2 ^ 1012 < 4 ^ 1586
-  n-lt = lt-of-le-of-lt (le-of-eq (mul-assoc m (2 ^ e) (2 ^ 1012) ∙ ap (λ (x : ℕ). m * x) (sym (pow-add 2 e 1012)))) (lt-of-lt-of-le (shl-lt 63 (e + 1012) hi) (pow-mono (go e far)))
+  n-lt =
+      lt-of-le-of-lt (le-of-eq (mul-assoc m (2 ^ e) (2 ^ 1012) ∙ ap (λ (x : ℕ). m * x) (sym (pow-add 2 e 1012))))
+      (lt-of-lt-of-le (shl-lt 63 (e + 1012) hi) (pow-mono (go e far)))
     where
       go : (e : ℕ) → e < 2098 → 63 + (e + 1012) ≤ 3172
       go e h = omega arith
 
-  pub half-lt : half + 485 ≤ 2045
+  half-lt : half + 485 ≤ 2045
   half-lt = go e odd half far halves
     where
       go : (e o k : ℕ) → e < 2098 → o + 2 * k ≡ e → k + 485 ≤ 2045
       go e o k h a = omega arith
 
   module _ (is : IsRoot (w * 2 ^ 54) q) where
-    pub q-ge : 2 ^ 53 ≤ q
+    q-ge : 2 ^ 53 ≤ q
     q-ge = root-big w q w-ge is
 
-    pub q-lt : q < 2 ^ 54
+    q-lt : q < 2 ^ 54
     q-lt = root-small w q w-lt is
 
     abbrev r : ℕ
@@ -396,12 +413,17 @@ module _ (m e q : ℕ) (lo : 2 ^ 62 ≤ m) (hi : m < 2 ^ 63) (whole : m % 1024 �
         let n = m * 2 ^ e * 2 ^ 1012 in
         let Q = wholeRoot 1586 n in
         let is' : IsRoot (w * 2 ^ 54 * 4 ^ h) Q = subst (λ (x : ℕ). IsRoot x Q) n-is (whole-root-is 1586 n n-lt) in
-        let st : Sticky (doubled n Q) (2 ^ h) J = subst (λ (x : ℕ). Sticky (doubled x Q) (2 ^ h) J) (sym n-is) (root-sticky (w * 2 ^ 54) q r h Q r-is r-le is') in
+        let st : Sticky (doubled n Q) (2 ^ h) J =
+        subst (λ (x : ℕ). Sticky (doubled x Q) (2 ^ h) J) (sym n-is) (root-sticky (w * 2 ^ 54) q r h Q r-is r-le is') in
         let st' : Sticky (doubled n Q * 2 ^ 2336) (2 ^ 1075 * 2 ^ (half + 1745)) J =
-        subst (λ (x : ℕ). Sticky (doubled n Q * 2 ^ 2336) x J) (sym (pow-add 2 h 2336) ∙ ap (λ (x : ℕ). 2 ^ x) (level half) ∙ pow-add 2 1075 (half + 1745)) (sticky-times (doubled n Q) (2 ^ h) (2 ^ 2336) J (pow-pos 2336) st) in
+        subst (λ (x : ℕ). Sticky (doubled n Q * 2 ^ 2336) x J)
+        (sym (pow-add 2 h 2336) ∙ ap (λ (x : ℕ). 2 ^ x) (level half) ∙ pow-add 2 1075 (half + 1745))
+        (sticky-times (doubled n Q) (2 ^ h) (2 ^ 2336) J (pow-pos 2336) st) in
         units-is n
         ∙ round-sticky binary64 false (doubled n Q) (2 ^ 1075) J (half + 1745) 2336 (pow-pos 1075) J-ge st'
-        ∙ ap (λ (x : ℕ). round binary64 false x (2 ^ 2336)) (ap (λ (x : ℕ). J * x) (ap (λ (x : ℕ). 2 ^ x) (nine half) ∙ pow-add 2 9 (half + 1736)) ∙ sym (mul-assoc J (2 ^ 9) (2 ^ (half + 1736))))
+        ∙ ap (λ (x : ℕ). round binary64 false x (2 ^ 2336))
+        (ap (λ (x : ℕ). J * x) (ap (λ (x : ℕ). 2 ^ x) (nine half) ∙ pow-add 2 9 (half + 1736))
+        ∙ sym (mul-assoc J (2 ^ 9) (2 ^ (half + 1736))))
       where
         level : (k : ℕ) → k + 484 + 2336 ≡ 1075 + (k + 1745)
         level k = omega arith
@@ -409,7 +431,7 @@ module _ (m e q : ℕ) (lo : 2 ^ 62 ≤ m) (hi : m < 2 ^ 63) (whole : m % 1024 �
         nine : (k : ℕ) → k + 1745 ≡ 9 + (k + 1736)
         nine k = omega arith
 
-    pub q-units : units binary64 false ((q + 1) / 2) (half + 485) ≡ rootUnits (m * 2 ^ e * 2 ^ 1012)
+    q-units : units binary64 false ((q + 1) / 2) (half + 485) ≡ rootUnits (m * 2 ^ e * 2 ^ 1012)
     q-units =
         ap₂ (λ (x y : ℕ). units binary64 false x y) (sym (nearest-half w q r r-is)) (less half)
         ∙ round-high false (J * 512) (half + 1736) (mul-le-mul-right 512 J-ge) (shl-lt 55 9 J-lt) (far-up half)
@@ -433,8 +455,10 @@ module _ (m e q : ℕ) (lo : 2 ^ 62 ≤ m) (hi : m < 2 ^ 63) (whole : m % 1024 �
         go : (q : ℕ) → 2 ^ 53 ≤ q → 2 ^ 52 ≤ (q + 1) / 2
         go q h = omega arith
 
-    pub q-packed : ofBits binary64 ((half + 485) * 2 ^ 52 + (q + 1) / 2) ≡ units binary64 false ((q + 1) / 2) (half + 485)
-    q-packed = ap (λ (x : ℕ). ofBits binary64 x) (sym (add-zero ((half + 485) * 2 ^ 52 + (q + 1) / 2))) ∙ packed false ((q + 1) / 2) (half + 485) q-most (inr q-least) half-lt
+    q-packed : ofBits binary64 ((half + 485) * 2 ^ 52 + (q + 1) / 2) ≡ units binary64 false ((q + 1) / 2) (half + 485)
+    q-packed =
+        ap (λ (x : ℕ). ofBits binary64 x) (sym (add-zero ((half + 485) * 2 ^ 52 + (q + 1) / 2)))
+        ∙ packed false ((q + 1) / 2) (half + 485) q-most (inr q-least) half-lt
 
 -- ---- as the program has it, with masks and shifts that lose nothing
 module _ {b m e : ℕ} (t : Taken b m e) where
@@ -472,7 +496,7 @@ module _ {b m e : ℕ} (t : Taken b m e) where
         go : (k : ℕ) → k ≤ 2045 → k * 2 ^ 52 < 2 ^ 64
         go k h = omega arith
 
-    pub program-packed : ofBits binary64 (k * 2 ^ 52 % 2 ^ 64 + (q + 1) / 2) ≡ units binary64 false ((q + 1) / 2) ((e - e % 2) / 2 + 485)
+    program-packed : ofBits binary64 (k * 2 ^ 52 % 2 ^ 64 + (q + 1) / 2) ≡ units binary64 false ((q + 1) / 2) ((e - e % 2) / 2 + 485)
     program-packed = ap (λ (x : ℕ). ofBits binary64 (x + (q + 1) / 2)) field-is ∙ q-packed m e q (t .least) (t .most) (t .whole) (t .far) is'
 
     pub program-real : T (not (nanBits binary64 (k * 2 ^ 52 % 2 ^ 64 + (q + 1) / 2)))

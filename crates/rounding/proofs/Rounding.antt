@@ -28,13 +28,17 @@ module _ (s : Bool) (sig e : ℕ) (lo : 2 ^ 63 ≤ sig) (hi : sig < 2 ^ 64) wher
       let k = e - 1251 in
       let n = sig * 2 ^ e * 2 ^ 1074 in
       let w : Window 53 k n (2 ^ 2336) = (
-        lt-of-le-of-lt (le-of-eq (joined sig e)) (lt-of-lt-of-le (shl-lt 64 (e + 1074) hi) (le-of-eq (ap (λ (x : ℕ). 2 ^ x) (top e h) ∙ pow-add 2 (53 + k) 2336))),
-        inr (le-trans (le-of-eq (sym (pow-add 2 (52 + k) 2336) ∙ ap (λ (x : ℕ). 2 ^ x) (sym (bottom e h)) ∙ pow-add 2 63 (e + 1074))) (le-trans (mul-le-mul-right (2 ^ (e + 1074)) lo) (le-of-eq (sym (joined sig e))))),
+        lt-of-le-of-lt (le-of-eq (joined sig e))
+            (lt-of-lt-of-le (shl-lt 64 (e + 1074) hi) (le-of-eq (ap (λ (x : ℕ). 2 ^ x) (top e h) ∙ pow-add 2 (53 + k) 2336))),
+        inr (le-trans (le-of-eq (sym (pow-add 2 (52 + k) 2336) ∙ ap (λ (x : ℕ). 2 ^ x) (sym (bottom e h)) ∙ pow-add 2 63 (e + 1074)))
+            (le-trans (mul-le-mul-right (2 ^ (e + 1074)) lo) (le-of-eq (sym (joined sig e))))),
       ) in
       sym (round-at binary64 s (sig * 2 ^ e) (2 ^ 2336) k (pow-pos 2336) w
       ∙ ap (λ (x : ℕ). units binary64 s x k)
       (closest-same n (2 ^ 2336 * 2 ^ k) sig 2048 (mul-pos (pow-pos 2336) (pow-pos k)) (lit< tt)
-      (ap (λ (x : ℕ). x * 2 ^ 11) (joined sig e) ∙ mul-assoc sig (2 ^ (e + 1074)) (2 ^ 11) ∙ ap (λ (x : ℕ). sig * x) (sym (pow-add 2 (e + 1074) 11) ∙ ap (λ (x : ℕ). 2 ^ x) (cross e h) ∙ pow-add 2 2336 k))))
+      (ap (λ (x : ℕ). x * 2 ^ 11) (joined sig e)
+      ∙ mul-assoc sig (2 ^ (e + 1074)) (2 ^ 11)
+      ∙ ap (λ (x : ℕ). sig * x) (sym (pow-add 2 (e + 1074) 11) ∙ ap (λ (x : ℕ). 2 ^ x) (cross e h) ∙ pow-add 2 2336 k))))
     where
       top : (e : ℕ) → 1251 ≤ e → 64 + (e + 1074) ≡ 53 + (e - 1251) + 2336
       top e h = omega arith
@@ -56,7 +60,11 @@ module _ (s : Bool) (sig e : ℕ) (lo : 2 ^ 63 ≤ sig) (hi : sig < 2 ^ 64) wher
       sym (round-at binary64 s (sig * 2 ^ e) (2 ^ 2336) 0 (pow-pos 2336) w
       ∙ ap (λ (x : ℕ). units binary64 s x 0)
       (closest-same n (2 ^ 2336 * 2 ^ 0) sig (2 ^ d * 2048) (mul-pos (pow-pos 2336) (pow-pos 0)) (mul-pos (pow-pos d) (lit< tt))
-      (ap (λ (x : ℕ). x * (2 ^ d * 2 ^ 11)) (joined sig e) ∙ mul-assoc sig (2 ^ (e + 1074)) (2 ^ d * 2 ^ 11) ∙ ap (λ (x : ℕ). sig * x) (ap (λ (x : ℕ). 2 ^ (e + 1074) * x) (sym (pow-add 2 d 11)) ∙ sym (pow-add 2 (e + 1074) (d + 11)) ∙ ap (λ (x : ℕ). 2 ^ x) (cross e h)))
+      (ap (λ (x : ℕ). x * (2 ^ d * 2 ^ 11)) (joined sig e)
+      ∙ mul-assoc sig (2 ^ (e + 1074)) (2 ^ d * 2 ^ 11)
+      ∙ ap (λ (x : ℕ). sig * x) (ap (λ (x : ℕ). 2 ^ (e + 1074) * x) (sym (pow-add 2 d 11))
+      ∙ sym (pow-add 2 (e + 1074) (d + 11))
+      ∙ ap (λ (x : ℕ). 2 ^ x) (cross e h)))
       ∙ closest-sticky sig (2 ^ d) J 512 (pow-pos d) (lit< tt) st))
     where
       top : (e : ℕ) → e < 1251 → 64 + (e + 1074) ≤ 53 + 2336

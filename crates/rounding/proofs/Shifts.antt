@@ -2,7 +2,8 @@
 use mathlib.Core.Path.{_≡_, refl, sym, ap, _∙_, subst}
 use mathlib.Core.Logic.{inl, inr}
 use Prim.Native.Nat.{ℕ, _+_, _-_, _*_, _/_, _%_, _^_, _≤_, _<_, max}
-use native.Mathlib.Nat.{le-trans, le-of-eq, lt-of-lt-of-le, lt-of-le-of-lt, add-mul, one-mul, mul-le-mul-right, zero-mul, div-mul-le-self, lt-div-mul-add, mod-eq-of-lt}
+use native.Mathlib.Nat.{le-trans, le-of-eq, lt-of-lt-of-le, lt-of-le-of-lt, add-mul, one-mul, mul-le-mul-right}
+use native.Mathlib.Nat.{zero-mul, div-mul-le-self, lt-div-mul-add, mod-eq-of-lt}
 use native.Mathlib.Omega.{arith}
 use lib.Arith.{lt-of-le-ne}
 use lib.Pow.{pow-pos, pow-mono}
@@ -35,7 +36,7 @@ sticky-up a b q lo hi = subst (λ (J : ℕ). Sticky a b J) (sym (or-one q)) (inr
     go : (w : ℕ) → w < a → w + b < a + b
     go w h = omega arith
 
-pub div-up : (a b : ℕ) → 0 < b → a < (a / b + 1) * b
+div-up : (a b : ℕ) → 0 < b → a < (a / b + 1) * b
 div-up a b h = lt-of-lt-of-le (lt-div-mul-add h) (le-of-eq (sym (add-mul (a / b) 1 b ∙ ap (λ (x : ℕ). a / b * b + x) (one-mul b))))
 
 back-fits : (a d : ℕ) → a < 2 ^ 64 → a / 2 ^ d * 2 ^ d % 2 ^ 64 ≡ a / 2 ^ d * 2 ^ d
@@ -46,7 +47,8 @@ shift-yes a d h e = inl (sym e ∙ back-fits a d h)
 
 pub shift-no : (a d : ℕ) → a < 2 ^ 64 → (a / 2 ^ d * 2 ^ d % 2 ^ 64 ≡ a → ⊥) → Sticky a (2 ^ d) (bitOr (a / 2 ^ d) 1)
 shift-no a d h n =
-    sticky-up a (2 ^ d) (a / 2 ^ d) (lt-of-le-ne (div-mul-le-self a (2 ^ d)) (λ (e : a / 2 ^ d * 2 ^ d ≡ a). n (back-fits a d h ∙ e))) (div-up a (2 ^ d) (pow-pos d))
+    sticky-up a (2 ^ d) (a / 2 ^ d) (lt-of-le-ne (div-mul-le-self a (2 ^ d)) (λ (e : a / 2 ^ d * 2 ^ d ≡ a). n (back-fits a d h ∙ e)))
+    (div-up a (2 ^ d) (pow-pos d))
 
 pub far-none : (a d : ℕ) → a ≡ 0 → Sticky a (2 ^ d) 0
 far-none a d e = inl (e ∙ sym (zero-mul (2 ^ d)))

@@ -4,7 +4,9 @@ use mathlib.Core.Path.{_≡_, refl, sym, ap, ap₂, _∙_, subst}
 use mathlib.Core.Logic.{_⊎_, inl, inr}
 use mathlib.Core.Bool.{Bool, not}
 use Prim.Native.Nat.{ℕ, _+_, _-_, _*_, _/_, _%_, _^_, _≤_, _<_, compare, Ordering, Ordering·lt, Ordering·eq, Ordering·gt}
-use native.Mathlib.Nat.{le-trans, le-of-eq, le-of-lt, lt-of-lt-of-le, lt-of-le-of-lt, lt-of-not-le, not-le-of-lt, mul-comm, mul-assoc, mul-left-comm, mul-right-comm, add-mul, one-mul, mul-pos, mul-le-mul-right, mul-lt-mul-of-pos-right, lt-of-mul-lt-mul-right, le-of-mul-le-mul-right, div-add-mod', div-eq-of-lt-le, mod-lt, le-div-iff-mul-le, div-lt-iff-lt-mul}
+use native.Mathlib.Nat.{le-trans, le-of-eq, le-of-lt, lt-of-lt-of-le, lt-of-le-of-lt, lt-of-not-le, not-le-of-lt, mul-comm, mul-assoc, mul-left-comm}
+use native.Mathlib.Nat.{mul-right-comm, add-mul, one-mul, mul-pos, mul-le-mul-right, mul-lt-mul-of-pos-right, lt-of-mul-lt-mul-right}
+use native.Mathlib.Nat.{le-of-mul-le-mul-right, div-add-mod', div-eq-of-lt-le, mod-lt, le-div-iff-mul-le, div-lt-iff-lt-mul}
 use native.Mathlib.Omega.{arith}
 use lib.Dec.{T, isLe, isEq, eqb, leb→le, nleb→lt, eqb→eq, eqb-refl}
 use lib.Arith.{lt-of-le-ne}
@@ -127,13 +129,17 @@ module _ (X B J D : ℕ) (Bp : 0 < B) (Dp : 0 < D) (o : J % 2 ≡ 1) (hi : X < (
           go u v w e f g = omega arith
 
       r2 : r * B + B ≤ B * M
-      r2 = le-trans (le-of-eq (sym (ap (λ (z : ℕ). r * B + z) (one-mul B)) ∙ sym (add-mul r 1 B))) (le-trans (mul-le-mul-right B (go r M r-lt)) (le-of-eq (mul-comm M B)))
+      r2 =
+          le-trans (le-of-eq (sym (ap (λ (z : ℕ). r * B + z) (one-mul B)) ∙ sym (add-mul r 1 B)))
+          (le-trans (mul-le-mul-right B (go r M r-lt)) (le-of-eq (mul-comm M B)))
         where
           go : (r M : ℕ) → r < M → r + 1 ≤ M
           go r M h = omega arith
 
       high-ok : X < (q + 1) * (B * M)
-      high-ok = lt-of-lt-of-le (go (q * (B * M)) (r * B) (J * B) ((J + 1) * B) (B * M) parts up-one r2 hi) (le-of-eq (sym (add-mul q 1 (B * M) ∙ ap (λ (z : ℕ). q * (B * M) + z) (one-mul (B * M)))))
+      high-ok =
+          lt-of-lt-of-le (go (q * (B * M)) (r * B) (J * B) ((J + 1) * B) (B * M) parts up-one r2 hi)
+          (le-of-eq (sym (add-mul q 1 (B * M) ∙ ap (λ (z : ℕ). q * (B * M) + z) (one-mul (B * M)))))
         where
           go : (u v w t m : ℕ) → w ≡ u + v → t ≡ w + B → v + B ≤ m → X < t → X < u + m
           go u v w t m a b c d = omega arith
@@ -177,7 +183,7 @@ module _ (X B J D : ℕ) (Bp : 0 < B) (Dp : 0 < D) (o : J % 2 ≡ 1) (hi : X < (
       upper : (R N h : ℕ) → N ≡ 2 * h → h < R → N < R * 2
       upper R N h a b = omega arith
 
-  pub closest-near : closest X (B * (4 * D)) ≡ closest J (4 * D)
+  closest-near : closest X (B * (4 * D)) ≡ closest J (4 * D)
   closest-near = ap₂ nearest quot same-order
 
 pub closest-sticky : (X B J D : ℕ) → 0 < B → 0 < D → Sticky X B J → closest X (B * (4 * D)) ≡ closest J (4 * D)
@@ -204,12 +210,15 @@ drop-at p k n c P C w = go (size (n / c)) (size-le (n / c) (p + k) (div-lt-iff-l
     go z h (inl e) = omega arith
     go z h (inr l) = omega arith
 
-pub round-at : (f : Format) (s : Bool) (a c k : ℕ) → 0 < c → Window (prec f) k (a * 2 ^ low f) c → round f s a c ≡ units f s (closest (a * 2 ^ low f) (c * 2 ^ k)) k
+pub round-at : (f : Format) (s : Bool) (a c k : ℕ) → 0 < c → Window (prec f) k (a * 2 ^ low f) c
+    → round f s a c ≡ units f s (closest (a * 2 ^ low f) (c * 2 ^ k)) k
 round-at f s a c k C w =
-    round-is f s a c ∙ ap (λ (z : ℕ). units f s (closest (a * 2 ^ low f) (c * 2 ^ z)) z) (drop-at (prec f) k (a * 2 ^ low f) c (two-le-pos (prec f) (two f)) C w)
+    round-is f s a c
+    ∙ ap (λ (z : ℕ). units f s (closest (a * 2 ^ low f) (c * 2 ^ z)) z)
+    (drop-at (prec f) k (a * 2 ^ low f) c (two-le-pos (prec f) (two f)) C w)
 
 -- every fraction has its window
-pub window-of : (p n c : ℕ) → 0 < p → 0 < c → Window p (drop p n c) n c
+window-of : (p n c : ℕ) → 0 < p → 0 < c → Window p (drop p n c) n c
 window-of p n c P C = (
   div-lt-iff-lt-mul C .0 (lt-of-lt-of-le (size-lt (n / c)) (pow-mono (cover (size (n / c)) p))),
   go (compare 0 (drop p n c)) (cmp 0 (drop p n c)),
@@ -286,7 +295,10 @@ module _ (f : Format) (s : Bool) (a c J e L : ℕ) (C : 0 < c) (big : 2 ^ (prec 
 
   -- the bound below, from J to X
   lower : (t : ℕ) → 2 ^ t * 2 ^ L ≤ n' → 2 ^ t * c ≤ n
-  lower t h = le-of-mul-le-mul-right (le-trans (le-of-eq (mul-right-comm (2 ^ t) c (2 ^ L))) (le-trans (go (compare (e + l) (t + L)) (cmp (e + l) (t + L))) (le-of-eq (mul-right-comm a (2 ^ L) (2 ^ l))))) (pow-pos L)
+  lower t h =
+      le-of-mul-le-mul-right (le-trans (le-of-eq (mul-right-comm (2 ^ t) c (2 ^ L)))
+      (le-trans (go (compare (e + l) (t + L)) (cmp (e + l) (t + L))) (le-of-eq (mul-right-comm a (2 ^ L) (2 ^ l)))))
+      (pow-pos L)
     where
       h' : 2 ^ (t + L) ≤ J * 2 ^ (e + l)
       h' = le-trans (le-of-eq (pow-add 2 t L)) (le-trans h (le-of-eq n'-is))
@@ -301,9 +313,12 @@ module _ (f : Format) (s : Bool) (a c J e L : ℕ) (C : 0 < c) (big : 2 ^ (prec 
           let y = 2 ^ (t + L - (e + l) - 1) in
           let at : 2 ^ (t + L) ≡ 2 * y * 2 ^ (e + l) = past (t + L) (e + l) g in
           let yJ : 2 * y ≤ J = le-of-mul-le-mul-right (le-trans (le-of-eq (sym at)) h') (pow-pos (e + l)) in
-          let m : 2 * y * B + B ≤ J * B = le-trans (le-of-eq (sym (add-mul (2 * y) 1 B ∙ ap (λ (z : ℕ). 2 * y * B + z) (one-mul B)))) (mul-le-mul-right B (odd-more J y o yJ)) in
+          let m : 2 * y * B + B ≤ J * B =
+          le-trans (le-of-eq (sym (add-mul (2 * y) 1 B ∙ ap (λ (z : ℕ). 2 * y * B + z) (one-mul B)))) (mul-le-mul-right B (odd-more J y o yJ)) in
           let r : 2 * y * B ≤ X = at-most (2 * y * B) (J * B) m lo in
-          le-trans (le-of-eq (ap (λ (z : ℕ). z * c) (sym (pow-add 2 t L) ∙ at ∙ ap (λ (z : ℕ). 2 * y * z) (pow-add 2 e l)) ∙ arrange (2 * y) (2 ^ e) (2 ^ l))) (mul-le-mul-right (2 ^ l) r)
+          le-trans (le-of-eq
+          (ap (λ (z : ℕ). z * c) (sym (pow-add 2 t L) ∙ at ∙ ap (λ (z : ℕ). 2 * y * z) (pow-add 2 e l)) ∙ arrange (2 * y) (2 ^ e) (2 ^ l)))
+          (mul-le-mul-right (2 ^ l) r)
         where
           at-most : (u w : ℕ) → u + B ≤ w → w < X + B → u ≤ X
           at-most u w a b = omega arith
@@ -320,7 +335,9 @@ module _ (f : Format) (s : Bool) (a c J e L : ℕ) (C : 0 < c) (big : 2 ^ (prec 
   upper : (t : ℕ) → n' < 2 ^ t * 2 ^ L → n < 2 ^ t * c
   upper t h =
       let h' : J * 2 ^ (e + l) < 2 ^ (t + L) = lt-of-le-of-lt (le-of-eq (sym n'-is)) (lt-of-lt-of-le h (le-of-eq (sym (pow-add 2 t L)))) in
-      let g : e + l < t + L = pow-lt-back (e + l) (t + L) (lt-of-le-of-lt (le-trans (le-of-eq (sym (one-mul (2 ^ (e + l))))) (mul-le-mul-right (2 ^ (e + l)) J1)) h') in
+      let g : e + l < t + L =
+      pow-lt-back (e + l) (t + L)
+      (lt-of-le-of-lt (le-trans (le-of-eq (sym (one-mul (2 ^ (e + l))))) (mul-le-mul-right (2 ^ (e + l)) J1)) h') in
       let y = 2 ^ (t + L - (e + l) - 1) in
       let at : 2 ^ (t + L) ≡ 2 * y * 2 ^ (e + l) = past (t + L) (e + l) g in
       let Jy : J < 2 * y = lt-of-mul-lt-mul-right (2 ^ (e + l)) (lt-of-lt-of-le h' (le-of-eq at)) in
@@ -328,7 +345,9 @@ module _ (f : Format) (s : Bool) (a c J e L : ℕ) (C : 0 < c) (big : 2 ^ (prec 
       lt-of-mul-lt-mul-right (2 ^ L)
       (lt-of-le-of-lt (le-of-eq (mul-right-comm a (2 ^ l) (2 ^ L)))
       (lt-of-lt-of-le (mul-lt-mul-of-pos-right r (pow-pos l))
-      (le-of-eq (sym (mul-right-comm (2 ^ t) c (2 ^ L) ∙ ap (λ (z : ℕ). z * c) (sym (pow-add 2 t L) ∙ at ∙ ap (λ (z : ℕ). 2 * y * z) (pow-add 2 e l)) ∙ arrange (2 * y) (2 ^ e) (2 ^ l))))))
+      (le-of-eq (sym (mul-right-comm (2 ^ t) c (2 ^ L)
+      ∙ ap (λ (z : ℕ). z * c) (sym (pow-add 2 t L) ∙ at ∙ ap (λ (z : ℕ). 2 * y * z) (pow-add 2 e l))
+      ∙ arrange (2 * y) (2 ^ e) (2 ^ l))))))
     where
       J1 : 1 ≤ J
       J1 = go J o
@@ -352,7 +371,9 @@ module _ (f : Format) (s : Bool) (a c J e L : ℕ) (C : 0 < c) (big : 2 ^ (prec 
   -- two digits of J at least are dropped
   two-more : e + l + 1 < L + k
   two-more = fewer p (e + l) k L (pow-lt-back (p + 1 + (e + l)) (p + k + L)
-      (lt-of-le-of-lt (le-of-eq (pow-add 2 (p + 1) (e + l))) (lt-of-le-of-lt (mul-le-mul-right (2 ^ (e + l)) big) (lt-of-le-of-lt (le-of-eq (sym n'-is)) (lt-of-lt-of-le (w' .0) (le-of-eq (sym (pow-add 2 (p + k) L))))))))
+      (lt-of-le-of-lt (le-of-eq (pow-add 2 (p + 1) (e + l)))
+      (lt-of-le-of-lt (mul-le-mul-right (2 ^ (e + l)) big)
+      (lt-of-le-of-lt (le-of-eq (sym n'-is)) (lt-of-lt-of-le (w' .0) (le-of-eq (sym (pow-add 2 (p + k) L))))))))
     where
       fewer : (p u k L : ℕ) → p + 1 + u < p + k + L → u + 1 < L + k
       fewer p u k L h = omega arith
@@ -361,7 +382,11 @@ module _ (f : Format) (s : Bool) (a c J e L : ℕ) (C : 0 < c) (big : 2 ^ (prec 
   D = 2 ^ (L + k - (e + l) - 2)
 
   at-four : 2 ^ L * 2 ^ k ≡ 4 * D * 2 ^ (e + l)
-  at-four = sym (pow-add 2 L k) ∙ ap (λ (z : ℕ). 2 ^ z) (split (L + k) (e + l) two-more) ∙ pow-add 2 (2 + (L + k - (e + l) - 2)) (e + l) ∙ ap (λ (z : ℕ). z * 2 ^ (e + l)) (pow-add 2 2 (L + k - (e + l) - 2))
+  at-four =
+      sym (pow-add 2 L k)
+      ∙ ap (λ (z : ℕ). 2 ^ z) (split (L + k) (e + l) two-more)
+      ∙ pow-add 2 (2 + (L + k - (e + l) - 2)) (e + l)
+      ∙ ap (λ (z : ℕ). z * 2 ^ (e + l)) (pow-add 2 2 (L + k - (e + l) - 2))
     where
       split : (t u : ℕ) → u + 1 < t → t ≡ 2 + (t - u - 2) + u
       split t u h = omega arith
@@ -382,13 +407,15 @@ module _ (f : Format) (s : Bool) (a c J e L : ℕ) (C : 0 < c) (big : 2 ^ (prec 
       back : (x y : ℕ) → a * (c * (x * y)) ≡ a * x * (c * y)
       back x y = simp (mul-assoc, mul-left-comm)
 
-  pub round-near : round f s a c ≡ round f s (J * 2 ^ e) (2 ^ L)
+  round-near : round f s a c ≡ round f s (J * 2 ^ e) (2 ^ L)
   round-near =
       round-at f s a c k C w
       ∙ ap (λ (z : ℕ). units f s z k) (of-a ∙ closest-near X B J D Bp (pow-pos (L + k - (e + l) - 2)) o hi lo ∙ sym of-J)
       ∙ sym (round-at f s (J * 2 ^ e) (2 ^ L) k (pow-pos L) w')
 
 -- J stands for the fraction a / c in units of 2 ^ (e - L), and has two digits more than the format keeps: it rounds as a / c does
-pub round-sticky : (f : Format) (s : Bool) (a c J e L : ℕ) → 0 < c → 2 ^ (prec f + 1) ≤ J → Sticky (a * 2 ^ L) (c * 2 ^ e) J → round f s a c ≡ round f s (J * 2 ^ e) (2 ^ L)
-round-sticky f s a c J e L C big (inl x) = round-same f s a c (J * 2 ^ e) (2 ^ L) C (pow-pos L) (x ∙ ap (λ (z : ℕ). J * z) (mul-comm c (2 ^ e)) ∙ sym (mul-assoc J (2 ^ e) c))
+pub round-sticky : (f : Format) (s : Bool) (a c J e L : ℕ) → 0 < c → 2 ^ (prec f + 1) ≤ J → Sticky (a * 2 ^ L) (c * 2 ^ e) J
+    → round f s a c ≡ round f s (J * 2 ^ e) (2 ^ L)
+round-sticky f s a c J e L C big (inl x) =
+    round-same f s a c (J * 2 ^ e) (2 ^ L) C (pow-pos L) (x ∙ ap (λ (z : ℕ). J * z) (mul-comm c (2 ^ e)) ∙ sym (mul-assoc J (2 ^ e) c))
 round-sticky f s a c J e L C big (inr x) = round-near f s a c J e L C big (x .0) (x .1) (x .2)

@@ -1,9 +1,11 @@
 -- The sum of two numbers with signs, one of which may be a sticky number that stands for it. Assumes nothing.
 use mathlib.Core.Path.{_≡_, refl, sym, ap, ap₂, _∙_, subst}
 use mathlib.Core.Logic.{_⊎_, inl, inr}
-use mathlib.Core.Bool.{Bool, true, false, not, _&&_, Bool·beq, cond, false≢true}
+use mathlib.Core.Bool.{Bool, true, false, _&&_, Bool·beq, cond, false≢true}
 use Prim.Native.Nat.{ℕ, suc, _+_, _-_, _*_, _/_, _%_, _^_, _≤_, _<_, compare, Ordering, Ordering·lt, Ordering·eq, Ordering·gt}
-use native.Mathlib.Nat.{le-trans, le-of-eq, le-of-lt, lt-of-lt-of-le, lt-of-le-of-lt, le-antisymm, le-of-suc-le-suc, le-mul-of-pos-right, add-mul, mul-sub, mul-comm, mul-assoc, one-mul, zero-mul, mul-le-mul-right, mul-lt-mul-of-pos-right, lt-of-mul-lt-mul-right, div-add-mod', add-comm, add-zero, sub-self, pow-suc}
+use native.Mathlib.Nat.{le-trans, le-of-eq, le-of-lt, lt-of-lt-of-le, lt-of-le-of-lt, le-antisymm, le-of-suc-le-suc, le-mul-of-pos-right}
+use native.Mathlib.Nat.{add-mul, mul-sub, mul-comm, mul-assoc, one-mul, zero-mul, mul-le-mul-right, mul-lt-mul-of-pos-right}
+use native.Mathlib.Nat.{lt-of-mul-lt-mul-right, div-add-mod', add-comm, add-zero, sub-self, pow-suc}
 use native.Mathlib.Omega.{arith}
 use lib.Dec.{ltb, lit<, lit≤}
 use lib.Pow.{pow-add, pow-pos, pow-mono}
@@ -60,7 +62,7 @@ beq-eq true false h = absurd (false≢true h)
 beq-eq false true h = absurd (false≢true h)
 beq-eq false false h = refl
 
-pub sum-comm : (f : Format) (s t : Bool) (a b c : ℕ) → sum f s a t b c ≡ sum f t b s a c
+sum-comm : (f : Format) (s t : Bool) (a b c : ℕ) → sum f s a t b c ≡ sum f t b s a c
 sum-comm f s t a b c = go (Bool·beq s t) refl
   where
     three : (o : Ordering) → Cmp o a b → Bool·beq s t ≡ false → sum f s a t b c ≡ sum f t b s a c
@@ -79,7 +81,9 @@ zero-sum = refl
 
 module _ (s t : Bool) (P Q S e : ℕ) where
   pub aligned-like : Bool·beq s t ≡ true → S ≡ P + Q → round binary64 s (S * 2 ^ e) (2 ^ 2272) ≡ sum binary64 s (P * 2 ^ e) t (Q * 2 ^ e) (2 ^ 2272)
-  aligned-like h k = ap (λ (x : ℕ). round binary64 s x (2 ^ 2272)) (ap (λ (x : ℕ). x * 2 ^ e) k ∙ add-mul P Q (2 ^ e)) ∙ sym (like binary64 s t (P * 2 ^ e) (Q * 2 ^ e) (2 ^ 2272) h)
+  aligned-like h k =
+      ap (λ (x : ℕ). round binary64 s x (2 ^ 2272)) (ap (λ (x : ℕ). x * 2 ^ e) k ∙ add-mul P Q (2 ^ e))
+      ∙ sym (like binary64 s t (P * 2 ^ e) (Q * 2 ^ e) (2 ^ 2272) h)
 
   off : (P Q : ℕ) → S + P ≡ Q → Q * 2 ^ e - P * 2 ^ e ≡ S * 2 ^ e
   off P Q k = go (Q * 2 ^ e) (P * 2 ^ e) (S * 2 ^ e) (ap (λ (x : ℕ). x * 2 ^ e) (sym k) ∙ add-mul S P (2 ^ e))
@@ -88,10 +92,14 @@ module _ (s t : Bool) (P Q S e : ℕ) where
       go q p s h = omega arith
 
   pub aligned-less : Bool·beq s t ≡ false → P < Q → S + P ≡ Q → round binary64 t (S * 2 ^ e) (2 ^ 2272) ≡ sum binary64 s (P * 2 ^ e) t (Q * 2 ^ e) (2 ^ 2272)
-  aligned-less h l k = ap (λ (x : ℕ). round binary64 t x (2 ^ 2272)) (sym (off P Q k)) ∙ sym (less binary64 s t (P * 2 ^ e) (Q * 2 ^ e) (2 ^ 2272) h (mul-lt-mul-of-pos-right l (pow-pos e)))
+  aligned-less h l k =
+      ap (λ (x : ℕ). round binary64 t x (2 ^ 2272)) (sym (off P Q k))
+      ∙ sym (less binary64 s t (P * 2 ^ e) (Q * 2 ^ e) (2 ^ 2272) h (mul-lt-mul-of-pos-right l (pow-pos e)))
 
   pub aligned-more : Bool·beq s t ≡ false → Q < P → S + Q ≡ P → round binary64 s (S * 2 ^ e) (2 ^ 2272) ≡ sum binary64 s (P * 2 ^ e) t (Q * 2 ^ e) (2 ^ 2272)
-  aligned-more h l k = ap (λ (x : ℕ). round binary64 s x (2 ^ 2272)) (sym (off Q P k)) ∙ sym (more binary64 s t (P * 2 ^ e) (Q * 2 ^ e) (2 ^ 2272) h (mul-lt-mul-of-pos-right l (pow-pos e)))
+  aligned-more h l k =
+      ap (λ (x : ℕ). round binary64 s x (2 ^ 2272)) (sym (off Q P k))
+      ∙ sym (more binary64 s t (P * 2 ^ e) (Q * 2 ^ e) (2 ^ 2272) h (mul-lt-mul-of-pos-right l (pow-pos e)))
 
 pub aligned-same : (s t : Bool) (P Q e : ℕ) → Bool·beq s t ≡ false → Q ≤ P → P ≤ Q → ofBits binary64 0 ≡ sum binary64 s (P * 2 ^ e) t (Q * 2 ^ e) (2 ^ 2272)
 aligned-same s t P Q e h k l = sym (level binary64 s t (P * 2 ^ e) (Q * 2 ^ e) (2 ^ 2272) h (ap (λ (x : ℕ). x * 2 ^ e) (le-antisymm l k)) ∙ zero-sum)
@@ -105,7 +113,9 @@ module _ (s t : Bool) (P Q X e L : ℕ) (even : P % 2 ≡ 0) (gap : Q + 2 ^ 54 �
   one-more n = add-mul n 1 w ∙ ap (λ (x : ℕ). n * w + x) (one-mul w)
 
   to-round : (a J : ℕ) → 2 ^ 54 ≤ J → Sticky a w J → round binary64 s (J * w) (2 ^ L) ≡ round binary64 s a (2 ^ L)
-  to-round a J big st = sym (round-sticky binary64 s a (2 ^ L) J e L (pow-pos L) big (subst (λ (x : ℕ). Sticky (a * 2 ^ L) x J) (mul-comm w (2 ^ L)) (sticky-times a w (2 ^ L) J (pow-pos L) st)))
+  to-round a J big st =
+      sym (round-sticky binary64 s a (2 ^ L) J e L (pow-pos L) big
+      (subst (λ (x : ℕ). Sticky (a * 2 ^ L) x J) (mul-comm w (2 ^ L)) (sticky-times a w (2 ^ L) J (pow-pos L) st)))
 
   sum-st : Sticky (P * w + X) w (P + Q)
   sum-st = inr (
@@ -154,7 +164,7 @@ module _ (s t : Bool) (P Q X e L : ℕ) (even : P % 2 ≡ 0) (gap : Q + 2 ^ 54 �
       down : (p q x r : ℕ) → r ≡ q + w → q < p → x < p → x < r → p - q < p - x + w
       down p q x r a b c d = omega arith
 
-  pub sum-near : sum binary64 s (P * w) t (Q * w) (2 ^ L) ≡ sum binary64 s (P * w) t X (2 ^ L)
+  sum-near : sum binary64 s (P * w) t (Q * w) (2 ^ L) ≡ sum binary64 s (P * w) t X (2 ^ L)
   sum-near = go (Bool·beq s t) refl
     where
       big-sum : (P Q : ℕ) → Q + 2 ^ 54 ≤ P → 2 ^ 54 ≤ P + Q
@@ -175,7 +185,8 @@ module _ (s t : Bool) (P Q X e L : ℕ) (even : P % 2 ≡ 0) (gap : Q + 2 ^ 54 �
           ∙ to-round (P * w - X) (P - Q) (big-diff P Q gap) diff-st
           ∙ sym (more binary64 s t (P * w) X (2 ^ L) h X-lt)
 
-pub sum-sticky : (s t : Bool) (P Q X e L : ℕ) → P % 2 ≡ 0 → (X ≡ Q * 2 ^ e) ⊎ (Q + 2 ^ 54 ≤ P) → Sticky X (2 ^ e) Q → sum binary64 s (P * 2 ^ e) t (Q * 2 ^ e) (2 ^ L) ≡ sum binary64 s (P * 2 ^ e) t X (2 ^ L)
+sum-sticky : (s t : Bool) (P Q X e L : ℕ) → P % 2 ≡ 0 → (X ≡ Q * 2 ^ e) ⊎ (Q + 2 ^ 54 ≤ P) → Sticky X (2 ^ e) Q
+    → sum binary64 s (P * 2 ^ e) t (Q * 2 ^ e) (2 ^ L) ≡ sum binary64 s (P * 2 ^ e) t X (2 ^ L)
 sum-sticky s t P Q X e L even (inl x) st = ap (λ (y : ℕ). sum binary64 s (P * 2 ^ e) t y (2 ^ L)) (sym x)
 sum-sticky s t P Q X e L even (inr g) (inl x) = ap (λ (y : ℕ). sum binary64 s (P * 2 ^ e) t y (2 ^ L)) (sym x)
 sum-sticky s t P Q X e L even (inr g) (inr n) = sum-near s t P Q X e L even g (n .0) (n .1) (n .2)
@@ -183,18 +194,25 @@ sum-sticky s t P Q X e L even (inr g) (inr n) = sum-near s t P Q X e L even g (n
 -- ---- a number with p zeros at its end: dropping up to p digits is exact, and dropping more leaves a small number
 exact-only : (k b J : ℕ) → 0 < b → Sticky (k * b) b J → k * b ≡ J * b
 exact-only k b J B (inl e) = e
-exact-only k b J B (inr s) = ap (λ (x : ℕ). x * b) (go k J (lt-of-mul-lt-mul-right b (s .1)) (lt-of-mul-lt-mul-right b (lt-of-lt-of-le (s .2) (le-of-eq (sym (add-mul k 1 b ∙ ap (λ (x : ℕ). k * b + x) (one-mul b)))))))
+exact-only k b J B (inr s) =
+    ap (λ (x : ℕ). x * b) (go k J (lt-of-mul-lt-mul-right b (s .1))
+    (lt-of-mul-lt-mul-right b (lt-of-lt-of-le (s .2) (le-of-eq (sym (add-mul k 1 b ∙ ap (λ (x : ℕ). k * b + x) (one-mul b)))))))
   where
     go : (k J : ℕ) → k < J + 1 → J < k + 1 → k ≡ J
     go k J a b = omega arith
 
-pub far-or-exact : (X d J p w n : ℕ) → X % 2 ^ p ≡ 0 → X < 2 ^ n → n ≤ w + suc p → Sticky X (2 ^ d) J → (X ≡ J * 2 ^ d) ⊎ (J ≤ 2 ^ w)
+far-or-exact : (X d J p w n : ℕ) → X % 2 ^ p ≡ 0 → X < 2 ^ n → n ≤ w + suc p → Sticky X (2 ^ d) J → (X ≡ J * 2 ^ d) ⊎ (J ≤ 2 ^ w)
 far-or-exact X d J p w n z lt h st = go (compare p d) (cmp p d)
   where
     near : d ≤ p → X ≡ J * 2 ^ d
     near g =
         let k = X / 2 ^ p in
-        let X-is : X ≡ k * 2 ^ (p - d) * 2 ^ d = sym (div-add-mod' X (2 ^ p)) ∙ ap (λ (x : ℕ). k * 2 ^ p + x) z ∙ add-zero (k * 2 ^ p) ∙ ap (λ (x : ℕ). k * x) (ap (λ (x : ℕ). 2 ^ x) (join p d g) ∙ pow-add 2 (p - d) d) ∙ sym (mul-assoc k (2 ^ (p - d)) (2 ^ d)) in
+        let X-is : X ≡ k * 2 ^ (p - d) * 2 ^ d =
+        sym (div-add-mod' X (2 ^ p))
+        ∙ ap (λ (x : ℕ). k * 2 ^ p + x) z
+        ∙ add-zero (k * 2 ^ p)
+        ∙ ap (λ (x : ℕ). k * x) (ap (λ (x : ℕ). 2 ^ x) (join p d g) ∙ pow-add 2 (p - d) d)
+        ∙ sym (mul-assoc k (2 ^ (p - d)) (2 ^ d)) in
         X-is ∙ exact-only (k * 2 ^ (p - d)) (2 ^ d) J (pow-pos d) (subst (λ (x : ℕ). Sticky x (2 ^ d) J) X-is st)
       where
         join : (p d : ℕ) → d ≤ p → p ≡ p - d + d
@@ -208,7 +226,10 @@ far-or-exact X d J p w n z lt h st = go (compare p d) (cmp p d)
 
     small : Sticky X (2 ^ d) J → X < 2 ^ w * 2 ^ d → J ≤ 2 ^ w
     small (inl e) b = le-of-lt (lt-of-mul-lt-mul-right (2 ^ d) (lt-of-le-of-lt (le-of-eq (sym e)) b))
-    small (inr s) b = le-of-suc-le-suc (plus-one J (2 ^ w) (lt-of-mul-lt-mul-right (2 ^ d) (lt-of-lt-of-le (s .2) (le-trans (le-of-lt (grow X (2 ^ w * 2 ^ d) (2 ^ d) b)) (le-of-eq (sym (add-mul (2 ^ w) 1 (2 ^ d) ∙ ap (λ (x : ℕ). 2 ^ w * 2 ^ d + x) (one-mul (2 ^ d)))))))))
+    small (inr s) b =
+        le-of-suc-le-suc
+        (plus-one J (2 ^ w) (lt-of-mul-lt-mul-right (2 ^ d) (lt-of-lt-of-le (s .2) (le-trans (le-of-lt (grow X (2 ^ w * 2 ^ d) (2 ^ d) b))
+        (le-of-eq (sym (add-mul (2 ^ w) 1 (2 ^ d) ∙ ap (λ (x : ℕ). 2 ^ w * 2 ^ d + x) (one-mul (2 ^ d)))))))))
       where
         plus-one : (J q : ℕ) → J < q + 1 → suc J ≤ suc q
         plus-one J q h = omega arith
@@ -222,9 +243,11 @@ far-or-exact X d J p w n z lt h st = go (compare p d) (cmp p d)
     go Ordering·gt g = inl (near (le-of-lt g))
 
 -- a sticky number is no larger than what it stands for, and is not 0 unless that is
-pub sticky-le : (X b J : ℕ) → 0 < b → Sticky X b J → J ≤ X
+sticky-le : (X b J : ℕ) → 0 < b → Sticky X b J → J ≤ X
 sticky-le X b J B (inl e) = le-trans (le-mul-of-pos-right J B) (le-of-eq (sym e))
-sticky-le X b J B (inr s) = le-of-suc-le-suc (plus-one J X (lt-of-mul-lt-mul-right b (lt-of-lt-of-le (s .2) (le-trans (grow X (X * b) b (le-mul-of-pos-right X B)) (le-of-eq (sym (add-mul X 1 b ∙ ap (λ (x : ℕ). X * b + x) (one-mul b))))))))
+sticky-le X b J B (inr s) =
+    le-of-suc-le-suc (plus-one J X (lt-of-mul-lt-mul-right b (lt-of-lt-of-le (s .2)
+    (le-trans (grow X (X * b) b (le-mul-of-pos-right X B)) (le-of-eq (sym (add-mul X 1 b ∙ ap (λ (x : ℕ). X * b + x) (one-mul b))))))))
   where
     plus-one : (J q : ℕ) → J < q + 1 → suc J ≤ suc q
     plus-one J q h = omega arith
@@ -232,7 +255,7 @@ sticky-le X b J B (inr s) = le-of-suc-le-suc (plus-one J X (lt-of-mul-lt-mul-rig
     grow : (x y z : ℕ) → x ≤ y → x + z ≤ y + z
     grow x y z h = omega arith
 
-pub sticky-pos : (X b J : ℕ) → 0 < X → Sticky X b J → 0 < J
+sticky-pos : (X b J : ℕ) → 0 < X → Sticky X b J → 0 < J
 sticky-pos X b J h (inl e) = go (compare 0 J) (cmp 0 J)
   where
     none : (x : ℕ) → 0 < x → x ≡ 0 → ⊥
@@ -250,7 +273,12 @@ sticky-pos X b J h (inr s) = go J (s .0)
 -- ---- as `sum_wide` has it: the number with the smaller exponent is shifted, and stands for itself
 module _ (s t : Bool) (A C J ea ec : ℕ) (a : Multiplied A) (c : Raised C) where
   even-of : (X p : ℕ) → X % 2 ^ suc p ≡ 0 → X % 2 ≡ 0
-  even-of X p z = go (X / 2 ^ suc p * 2 ^ p) (sym (div-add-mod' X (2 ^ suc p)) ∙ ap (λ (x : ℕ). X / 2 ^ suc p * 2 ^ suc p + x) z ∙ add-zero (X / 2 ^ suc p * 2 ^ suc p) ∙ ap (λ (x : ℕ). X / 2 ^ suc p * x) (pow-suc 2 p) ∙ sym (mul-assoc (X / 2 ^ suc p) (2 ^ p) 2))
+  even-of X p z =
+      go (X / 2 ^ suc p * 2 ^ p) (sym (div-add-mod' X (2 ^ suc p))
+      ∙ ap (λ (x : ℕ). X / 2 ^ suc p * 2 ^ suc p + x) z
+      ∙ add-zero (X / 2 ^ suc p * 2 ^ suc p)
+      ∙ ap (λ (x : ℕ). X / 2 ^ suc p * x) (pow-suc 2 p)
+      ∙ sym (mul-assoc (X / 2 ^ suc p) (2 ^ p) 2))
     where
       go : (k : ℕ) → X ≡ k * 2 → X % 2 ≡ 0
       go k e = omega arith
@@ -260,12 +288,15 @@ module _ (s t : Bool) (A C J ea ec : ℕ) (a : Multiplied A) (c : Raised C) wher
   right-pos = lt-of-lt-of-le (lit< tt) (a .least)
 
   pub right-fits : Sticky C (2 ^ (ea - ec)) J → A + J < 2 ^ 128
-  right-fits st = lt-of-lt-of-le (grow A (2 ^ 126) J (2 ^ 127) (a .most) (lt-of-le-of-lt (sticky-le C (2 ^ (ea - ec)) J (pow-pos (ea - ec)) st) (c .most))) (lit≤ tt)
+  right-fits st =
+      lt-of-lt-of-le
+      (grow A (2 ^ 126) J (2 ^ 127) (a .most) (lt-of-le-of-lt (sticky-le C (2 ^ (ea - ec)) J (pow-pos (ea - ec)) st) (c .most))) (lit≤ tt)
     where
       grow : (i x j y : ℕ) → i < x → j < y → i + j < x + y
       grow i x j y h k = omega arith
 
-  pub right : ec ≤ ea → Sticky C (2 ^ (ea - ec)) J → sum binary64 s (A * 2 ^ ea) t (J * 2 ^ ea) (2 ^ 2272) ≡ sum binary64 s (A * 2 ^ ea) t (C * 2 ^ ec) (2 ^ 2272)
+  pub right : ec ≤ ea → Sticky C (2 ^ (ea - ec)) J
+      → sum binary64 s (A * 2 ^ ea) t (J * 2 ^ ea) (2 ^ 2272) ≡ sum binary64 s (A * 2 ^ ea) t (C * 2 ^ ec) (2 ^ 2272)
   right h st =
       let both : 2 ^ (ea - ec) * 2 ^ ec ≡ 2 ^ ea = sym (pow-add 2 (ea - ec) ec) ∙ ap (λ (x : ℕ). 2 ^ x) (join ea ec h) in
       let st' : Sticky (C * 2 ^ ec) (2 ^ ea) J = subst (λ (x : ℕ). Sticky (C * 2 ^ ec) x J) both (sticky-times C (2 ^ (ea - ec)) (2 ^ ec) J (pow-pos ec) st) in
@@ -286,17 +317,21 @@ module _ (s t : Bool) (A C J ea ec : ℕ) (a : Multiplied A) (c : Raised C) wher
   left-pos st = sticky-pos A (2 ^ (ec - ea)) J right-pos st
 
   pub left-fits : Sticky A (2 ^ (ec - ea)) J → J + C < 2 ^ 128
-  left-fits st = lt-of-lt-of-le (grow J (2 ^ 126) C (2 ^ 127) (lt-of-le-of-lt (sticky-le A (2 ^ (ec - ea)) J (pow-pos (ec - ea)) st) (a .most)) (c .most)) (lit≤ tt)
+  left-fits st =
+      lt-of-lt-of-le
+      (grow J (2 ^ 126) C (2 ^ 127) (lt-of-le-of-lt (sticky-le A (2 ^ (ec - ea)) J (pow-pos (ec - ea)) st) (a .most)) (c .most)) (lit≤ tt)
     where
       grow : (i x j y : ℕ) → i < x → j < y → i + j < x + y
       grow i x j y h k = omega arith
 
-  pub left : ea ≤ ec → Sticky A (2 ^ (ec - ea)) J → sum binary64 s (J * 2 ^ ec) t (C * 2 ^ ec) (2 ^ 2272) ≡ sum binary64 s (A * 2 ^ ea) t (C * 2 ^ ec) (2 ^ 2272)
+  pub left : ea ≤ ec → Sticky A (2 ^ (ec - ea)) J
+      → sum binary64 s (J * 2 ^ ec) t (C * 2 ^ ec) (2 ^ 2272) ≡ sum binary64 s (A * 2 ^ ea) t (C * 2 ^ ec) (2 ^ 2272)
   left h st =
       let both : 2 ^ (ec - ea) * 2 ^ ea ≡ 2 ^ ec = sym (pow-add 2 (ec - ea) ea) ∙ ap (λ (x : ℕ). 2 ^ x) (join ec ea h) in
       let st' : Sticky (A * 2 ^ ea) (2 ^ ec) J = subst (λ (x : ℕ). Sticky (A * 2 ^ ea) x J) both (sticky-times A (2 ^ (ec - ea)) (2 ^ ea) J (pow-pos ea) st) in
       sum-comm binary64 s t (J * 2 ^ ec) (C * 2 ^ ec) (2 ^ 2272)
-      ∙ sum-sticky t s C J (A * 2 ^ ea) ec 2272 (even-of C 73 (c .ends)) (pick both (far-or-exact A (ec - ea) J 20 105 126 (a .ends) (a .most) (lit≤ tt) st)) st'
+      ∙ sum-sticky t s C J (A * 2 ^ ea) ec 2272 (even-of C 73 (c .ends))
+      (pick both (far-or-exact A (ec - ea) J 20 105 126 (a .ends) (a .most) (lit≤ tt) st)) st'
       ∙ sum-comm binary64 t s (C * 2 ^ ec) (A * 2 ^ ea) (2 ^ 2272)
     where
       join : (a b : ℕ) → b ≤ a → a - b + b ≡ a

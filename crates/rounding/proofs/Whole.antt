@@ -1,17 +1,18 @@
 -- A finite binary64 value is a whole number of 2 ^ -1074, and two that fit and have one value are one value. Assumes nothing.
 use mathlib.Core.Path.{_≡_, refl, sym, ap, _∙_}
-use mathlib.Core.Bool.{Bool, true, false, _&&_, cond}
-use Prim.Native.Nat.{ℕ, zero, suc, _+_, _-_, _*_, _/_, _%_, _^_, _≤_, _<_}
-use native.Mathlib.Nat.{le-trans, le-antisymm, le-of-eq, lt-of-not-le, not-le-of-lt, lt-of-le-of-lt, lt-of-lt-of-le, mul-assoc, mul-right-comm, mul-one, one-mul, zero-mul, mul-le-mul-right, mul-pos, mul-lt-mul-of-pos-right, lt-of-mul-lt-mul-right, mul-div-cancel, eq-of-mul-eq-mul-right}
-use native.Mathlib.Omega.{arith}
+use mathlib.Core.Bool.{Bool, true, false, _&&_}
+use Prim.Native.Nat.{ℕ, zero, suc, _-_, _*_, _/_, _%_, _^_, _≤_, _<_}
+use native.Mathlib.Nat.{le-trans, le-antisymm, le-of-eq, lt-of-le-of-lt, lt-of-lt-of-le, mul-assoc, mul-right-comm, mul-one, one-mul, zero-mul}
+use native.Mathlib.Nat.{mul-le-mul-right, mul-pos, mul-lt-mul-of-pos-right, lt-of-mul-lt-mul-right, mul-div-cancel, eq-of-mul-eq-mul-right}
 use lib.IntN.{ℤ, pos, negsuc}
 use lib.Dec.{T, eqb, leb, ltb, eqb→eq, leb→le, ltb→lt, lit≤}
-use lib.Pow.{pow-add, pow-pos, pow-lt}
-use lib.Ieee.{Float, nan, inf, fin, binary64, up, down, size, fits, le, ofBits, toBits}
+use lib.Pow.{pow-add, pow-pos}
+use lib.Ieee.{Float, nan, inf, fin, binary64, up, down, fits, le}
 use lib.Ieee.Fits.{up-pos, down-pos, and-l, and-r}
-use lib.Ieee.Bits.{ofBits-toBits}
+use lib.Ieee.Digits.{back}
 use lib.Ieee.Exact.{HasValue}
 use lib.Ieee.Positive.{num, den, positive, den-pos, own-value, le→cross}
+use Rattle.float.proofs.Itself.{one-of-value, exponents-in-order}
 
 -- from one fraction to another of the same size
 pub rescale : (x : Float) (s : Bool) (w l a c : ℕ) → 0 < l → a * l ≡ w * c → HasValue x s w l → HasValue x s a c
@@ -33,18 +34,9 @@ unitsIn nan = 0
 unitsIn (inf s) = 0
 unitsIn (fin s m e) = m * up e * 2 ^ 1074 / down e
 
-reach : (n : ℕ) → 2 ^ n ≤ 2 ^ 1074 → n < 1075
-reach n h = lt-of-not-le (λ (g : 1075 ≤ n). not-le-of-lt (pow-lt {i = 1074} {j = n} (next g)) h)
-  where
-    next : 1075 ≤ n → 1074 < n
-    next g = omega arith
-
 -- a power of two up to 2 ^ 1074 divides it
-divides : (n : ℕ) → n < 1075 → 2 ^ (1074 - n) * 2 ^ n ≡ 2 ^ 1074
-divides n h = sym (pow-add 2 (1074 - n) n) ∙ ap (λ (k : ℕ). 2 ^ k) (back n h)
-  where
-    back : (n : ℕ) → n < 1075 → 1074 - n + n ≡ 1074
-    back n g = omega arith
+divides : (n : ℕ) → n ≤ 1074 → 2 ^ (1074 - n) * 2 ^ n ≡ 2 ^ 1074
+divides n h = sym (pow-add 2 (1074 - n) n) ∙ ap (λ (k : ℕ). 2 ^ k) (back 1074 n h)
 
 whole-by : (a d r : ℕ) → 0 < d → r * d ≡ 2 ^ 1074 → a * 2 ^ 1074 ≡ a * 2 ^ 1074 / d * d
 whole-by a d r h e =
@@ -54,7 +46,7 @@ whole-by a d r h e =
 -- nothing is lost: the division leaves no rest
 no-rest : (a : ℕ) (e : ℤ) → down e ≤ 2 ^ 1074 → a * 2 ^ 1074 ≡ a * 2 ^ 1074 / down e * down e
 no-rest a (pos k) h = whole-by a 1 (2 ^ 1074) (pow-pos 0) (mul-one (2 ^ 1074))
-no-rest a (negsuc k) h = whole-by a (2 ^ suc k) (2 ^ (1074 - suc k)) (pow-pos (suc k)) (divides (suc k) (reach (suc k) h))
+no-rest a (negsuc k) h = whole-by a (2 ^ suc k) (2 ^ (1074 - suc k)) (pow-pos (suc k)) (divides (suc k) (exponents-in-order (suc k) 1074 h))
 
 -- what `fits` says of a finite value: it is a whole number of 2 ^ -1074, and it is below 2 ^ 1024
 held : (s : Bool) (m : ℕ) (e : ℤ) → T (fits binary64 (fin s m e)) → (down e ≤ 2 ^ 1074) × (m * up e < 2 ^ 1024 * down e)
@@ -70,14 +62,16 @@ held s (suc m) e h =
     let low : Bool = leb (down e) (2 ^ 1074) in
     let high : Bool = ltb (suc m * up e) (2 ^ 1024 * down e) in
     let odd : Bool = eqb (suc m % 2) 1 in
-    let short : Bool = ltb (suc m) (2 ^ 53) in
-    (leb→le (down e) (2 ^ 1074) (and-r (odd && short) low (and-l (odd && short && low) high h)), ltb→lt (suc m * up e) (2 ^ 1024 * down e) (and-r (odd && short && low) high h))
+    let short : Bool = ltb (suc m) (2 ^ 53) in (
+      leb→le (down e) (2 ^ 1074) (and-r (odd && short) low (and-l (odd && short && low) high h)),
+      ltb→lt (suc m * up e) (2 ^ 1024 * down e) (and-r (odd && short && low) high h),
+    )
 
-pub whole-value : (s : Bool) (m : ℕ) (e : ℤ) → T (fits binary64 (fin s m e)) → HasValue (fin s m e) s (unitsIn (fin s m e)) (2 ^ 1074)
+whole-value : (s : Bool) (m : ℕ) (e : ℤ) → T (fits binary64 (fin s m e)) → HasValue (fin s m e) s (unitsIn (fin s m e)) (2 ^ 1074)
 whole-value s m e h = (refl, no-rest (m * up e) e (held s m e h .0))
 
 -- from 2 ^ 2098 units on it is an infinity
-pub whole-below : (s : Bool) (m : ℕ) (e : ℤ) → T (fits binary64 (fin s m e)) → unitsIn (fin s m e) < 2 ^ 2098
+whole-below : (s : Bool) (m : ℕ) (e : ℤ) → T (fits binary64 (fin s m e)) → unitsIn (fin s m e) < 2 ^ 2098
 whole-below s m e h =
     lt-of-mul-lt-mul-right (down e)
     (lt-of-le-of-lt (le-of-eq (sym (no-rest (m * up e) e (held s m e h .0))))
@@ -85,21 +79,8 @@ whole-below s m e h =
 
 -- ---- one value, one float
 
--- the bits that are written for a value of a units
-pub written : (x : Float) (s : Bool) (a : ℕ) → HasValue x s a (2 ^ 1074) → toBits binary64 x ≡ cond s (2 ^ 63) 0 + (size a - 53) * 2 ^ 52 + a / 2 ^ (size a - 53)
-unfolding toBits
-written nan s a h = absurd h
-written (inf t) s a h = absurd h
-written (fin t m e) s a h =
-    let n : m * up e * 2 ^ 1074 / down e ≡ a = ap (λ (x : ℕ). x / down e) (h .1) ∙ mul-div-cancel a (down-pos e) in
-    ap (λ (x : ℕ). cond t (2 ^ 63) 0 + (size x - 53) * 2 ^ 52 + x / 2 ^ (size x - 53)) n
-    ∙ ap (λ (b : Bool). cond b (2 ^ 63) 0 + (size a - 53) * 2 ^ 52 + a / 2 ^ (size a - 53)) (h .0)
-
-same-units : (x y : Float) (s : Bool) (a : ℕ) → T (fits binary64 x) → T (fits binary64 y) → HasValue x s a (2 ^ 1074) → HasValue y s a (2 ^ 1074) → x ≡ y
-same-units x y s a p q v w = sym (ofBits-toBits binary64 x p) ∙ ap (λ (b : ℕ). ofBits binary64 b) (written x s a v ∙ sym (written y s a w)) ∙ ofBits-toBits binary64 y q
-
 -- two that fit and have the same sign and size are the same float
-pub same-value : (x y : Float) (s : Bool) (a c : ℕ) → 0 < c → T (fits binary64 x) → T (fits binary64 y) → HasValue x s a c → HasValue y s a c → x ≡ y
+same-value : (x y : Float) (s : Bool) (a c : ℕ) → 0 < c → T (fits binary64 x) → T (fits binary64 y) → HasValue x s a c → HasValue y s a c → x ≡ y
 same-value nan y s a c C p q v w = absurd v
 same-value (inf t) y s a c C p q v w = absurd v
 same-value (fin t m e) y s a c C p q v w =
@@ -107,8 +88,13 @@ same-value (fin t m e) y s a c C p q v w =
     let whole = whole-value t m e p in
     let cross : n * c ≡ a * 2 ^ 1074 =
     eq-of-mul-eq-mul-right (down e) (down-pos e) (n * c) (a * 2 ^ 1074)
-    (mul-right-comm n c (down e) ∙ ap (λ (k : ℕ). k * c) (sym (whole .1)) ∙ mul-right-comm (m * up e) (2 ^ 1074) c ∙ ap (λ (k : ℕ). k * 2 ^ 1074) (v .1) ∙ mul-right-comm a (down e) (2 ^ 1074)) in
-    same-units (fin t m e) y s n p q (v .0, whole .1) (rescale y s a c n (2 ^ 1074) C cross w)
+    (mul-right-comm n c (down e)
+    ∙ ap (λ (k : ℕ). k * c) (sym (whole .1))
+    ∙ mul-right-comm (m * up e) (2 ^ 1074) c
+    ∙ ap (λ (k : ℕ). k * 2 ^ 1074) (v .1)
+    ∙ mul-right-comm a (down e) (2 ^ 1074))
+    in
+    one-of-value (fin t m e) y s n p q (v .0, whole .1) (rescale y s a c n (2 ^ 1074) C cross w)
 
 -- ---- the values above zero
 
@@ -126,4 +112,5 @@ positive-below (fin s m e) h p = whole-below s m e h
 -- of two that fit, each at most the other, there is one
 pub le-antisym : (x y : Float) → T (positive x) → T (positive y) → T (fits binary64 x) → T (fits binary64 y) → T (le x y) → T (le y x) → x ≡ y
 le-antisym x y p q f g h k =
-    same-value x y false (num x) (den x) (den-pos x) f g (own-value x p) (rescale y false (num y) (den y) (num x) (den x) (den-pos y) (le-antisymm (le→cross x y p q h) (le→cross y x q p k)) (own-value y q))
+    same-value x y false (num x) (den x) (den-pos x) f g (own-value x p)
+    (rescale y false (num y) (den y) (num x) (den x) (den-pos y) (le-antisymm (le→cross x y p q h) (le→cross y x q p k)) (own-value y q))

@@ -1,9 +1,11 @@
 -- Numbers of two words, hi * 2 ^ 64 + lo: their product, shift, difference, and rounding. Assumes nothing.
 use mathlib.Core.Path.{_≡_, refl, sym, ap, ap₂, _∙_, subst}
 use mathlib.Core.Logic.{_⊎_, inl, inr}
-use mathlib.Core.Bool.{Bool, true, false, not, cond, true≢false}
+use mathlib.Core.Bool.{Bool, true, false, cond, true≢false}
 use Prim.Native.Nat.{ℕ, zero, suc, _+_, _-_, _*_, _/_, _%_, _^_, _≤_, _<_}
-use native.Mathlib.Nat.{le-trans, le-of-eq, lt-of-lt-of-le, lt-of-le-of-lt, add-mul, mul-add, mul-comm, mul-assoc, mul-left-comm, mul-right-comm, mul-mul-mul-comm, mul-one, one-mul, zero-mul, mul-pos, mul-le-mul, mul-le-mul-right, mul-lt-mul-of-pos-right, lt-of-mul-lt-mul-right, le-of-mul-le-mul-right, mod-lt, mod-eq-of-lt, div-add-mod', mul-add-mod-self-right, pow-suc, eq-zero-or-pos}
+use native.Mathlib.Nat.{le-trans, le-of-eq, lt-of-lt-of-le, lt-of-le-of-lt, add-mul, mul-add, mul-comm, mul-assoc, mul-left-comm, mul-right-comm}
+use native.Mathlib.Nat.{mul-mul-mul-comm, mul-one, one-mul, zero-mul, mul-pos, mul-le-mul, mul-le-mul-right, mul-lt-mul-of-pos-right, lt-of-mul-lt-mul-right}
+use native.Mathlib.Nat.{le-of-mul-le-mul-right, mod-lt, mod-eq-of-lt, div-add-mod', mul-add-mod-self-right, pow-suc, eq-zero-or-pos}
 use native.Mathlib.Omega.{arith}
 use lib.Dec.{T, eqb, eqb→eq, lit<, lit≤}
 use lib.Pow.{pow-add, pow-pos, shl-lt, shr-lt}
@@ -32,7 +34,7 @@ low-le n = go (low n) (n % 2 ^ 32) (low-is n) (mod-lt n (lit< tt))
     go : (a b : ℕ) → a ≡ b → b < 2 ^ 32 → a ≤ 0xffff_ffff
     go a b e h = omega arith
 
-pub half-product : (a b : ℕ) → a ≤ 0xffff_ffff → b ≤ 0xffff_ffff → a * b ≤ 0xffff_fffe_0000_0001
+half-product : (a b : ℕ) → a ≤ 0xffff_ffff → b ≤ 0xffff_ffff → a * b ≤ 0xffff_fffe_0000_0001
 half-product a b h k = mul-le-mul h k
 
 module _ (u v : ℕ) (Uh : u < 2 ^ 64) (Vh : v < 2 ^ 64) where
@@ -109,7 +111,8 @@ module _ (u v : ℕ) (Uh : u < 2 ^ 64) (Vh : v < 2 ^ 64) where
       ap₂ (λ (x y : ℕ). x * y) (sym split-u) (sym split-v)
       ∙ add-mul (u1 * 2 ^ 32) u0 (v1 * 2 ^ 32 + v0)
       ∙ ap₂ (λ (x y : ℕ). x + y) (mul-add (u1 * 2 ^ 32) (v1 * 2 ^ 32) v0) (mul-add u0 (v1 * 2 ^ 32) v0)
-      ∙ go (u1 * 2 ^ 32 * (v1 * 2 ^ 32)) (u1 * 2 ^ 32 * v0) (u0 * (v1 * 2 ^ 32)) (u0 * v0) (u1 * v1) (u1 * v0) (u0 * v1) (square u1 v1) (mul-right-comm u1 (2 ^ 32) v0) (sym (mul-assoc u0 v1 (2 ^ 32)))
+      ∙ go (u1 * 2 ^ 32 * (v1 * 2 ^ 32)) (u1 * 2 ^ 32 * v0) (u0 * (v1 * 2 ^ 32)) (u0 * v0) (u1 * v1) (u1 * v0) (u0 * v1) (square u1 v1)
+      (mul-right-comm u1 (2 ^ 32) v0) (sym (mul-assoc u0 v1 (2 ^ 32)))
     where
       square : (a b : ℕ) → a * 2 ^ 32 * (b * 2 ^ 32) ≡ a * b * 2 ^ 64
       square a b = mul-mul-mul-comm a (2 ^ 32) b (2 ^ 32)
@@ -118,7 +121,10 @@ module _ (u v : ℕ) (Uh : u < 2 ^ 64) (Vh : v < 2 ^ 64) where
       go x y z w a b c e f g = omega arith
 
   pub product-is : (u1 * v1 + t / 2 ^ 32 + w1 / 2 ^ 32) * 2 ^ 64 + bitOr (w1 * 2 ^ 32 % 2 ^ 64) (low (u0 * v0)) ≡ u * v
-  product-is = ap (λ (x : ℕ). (u1 * v1 + t / 2 ^ 32 + w1 / 2 ^ 32) * 2 ^ 64 + x) word ∙ go (u1 * v1) (u1 * v0) (u0 * v1) (u0 * v0) (low t) w1 (low-is t) refl ∙ sym four
+  product-is =
+      ap (λ (x : ℕ). (u1 * v1 + t / 2 ^ 32 + w1 / 2 ^ 32) * 2 ^ 64 + x) word
+      ∙ go (u1 * v1) (u1 * v0) (u0 * v1) (u0 * v0) (low t) w1 (low-is t) refl
+      ∙ sym four
     where
       go : (a b c d l w : ℕ) → l ≡ (b + d / 2 ^ 32) % 2 ^ 32 → w ≡ l + c
           → (a + (b + d / 2 ^ 32) / 2 ^ 32 + w / 2 ^ 32) * 2 ^ 64 + (w % 2 ^ 32 * 2 ^ 32 + d % 2 ^ 32) ≡ a * 2 ^ 64 + b * 2 ^ 32 + c * 2 ^ 32 + d
@@ -155,14 +161,18 @@ pub sticky-trans : (a b i J K : ℕ) → 0 < b → Sticky a b J → Sticky J (2 
 sticky-trans a b i J K B (inl e) (inl f) = inl (e ∙ ap (λ (x : ℕ). x * b) f ∙ mul-assoc K (2 ^ i) b ∙ ap (λ (x : ℕ). K * x) (mul-comm (2 ^ i) b))
 sticky-trans a b i J K B (inl e) (inr f) = inr (
   f .0,
-  lt-of-le-of-lt (le-of-eq e) (lt-of-lt-of-le (mul-lt-mul-of-pos-right (f .1) B) (le-of-eq (mul-assoc (K + 1) (2 ^ i) b ∙ ap (λ (x : ℕ). (K + 1) * x) (mul-comm (2 ^ i) b)))),
-  lt-of-le-of-lt (le-of-eq (sym (mul-assoc K (2 ^ i) b ∙ ap (λ (x : ℕ). K * x) (mul-comm (2 ^ i) b)))) (lt-of-lt-of-le (mul-lt-mul-of-pos-right (f .2) B) (le-of-eq (add-mul J (2 ^ i) b ∙ ap₂ (λ (x y : ℕ). x + y) (sym e) (mul-comm (2 ^ i) b)))),
+  lt-of-le-of-lt (le-of-eq e) (lt-of-lt-of-le (mul-lt-mul-of-pos-right (f .1) B)
+      (le-of-eq (mul-assoc (K + 1) (2 ^ i) b ∙ ap (λ (x : ℕ). (K + 1) * x) (mul-comm (2 ^ i) b)))),
+  lt-of-le-of-lt (le-of-eq (sym (mul-assoc K (2 ^ i) b ∙ ap (λ (x : ℕ). K * x) (mul-comm (2 ^ i) b))))
+      (lt-of-lt-of-le (mul-lt-mul-of-pos-right (f .2) B)
+      (le-of-eq (add-mul J (2 ^ i) b ∙ ap₂ (λ (x y : ℕ). x + y) (sym e) (mul-comm (2 ^ i) b)))),
 )
 sticky-trans a b zero J K B (inr e) (inl f) = subst (λ (x : ℕ). Sticky a x K) (sym (mul-one b)) (subst (λ (x : ℕ). Sticky a b x) (f ∙ mul-one K) (inr e))
 sticky-trans a b (suc i) J K B (inr e) (inl f) = absurd (odd-not J K (2 ^ i) (e .0) (f ∙ ap (λ (x : ℕ). K * x) (pow-suc 2 i ∙ mul-comm (2 ^ i) 2)))
 sticky-trans a b i J K B (inr e) (inr f) = inr (
   f .0,
-  lt-of-lt-of-le (e .1) (le-trans (mul-le-mul-right b (next J ((K + 1) * 2 ^ i) (f .1))) (le-of-eq (mul-assoc (K + 1) (2 ^ i) b ∙ ap (λ (x : ℕ). (K + 1) * x) (mul-comm (2 ^ i) b)))),
+  lt-of-lt-of-le (e .1) (le-trans (mul-le-mul-right b (next J ((K + 1) * 2 ^ i) (f .1)))
+      (le-of-eq (mul-assoc (K + 1) (2 ^ i) b ∙ ap (λ (x : ℕ). (K + 1) * x) (mul-comm (2 ^ i) b)))),
   lower,
 )
   where
@@ -172,7 +182,8 @@ sticky-trans a b i J K B (inr e) (inr f) = inr (
     -- K 2 ^ i < J + 2 ^ i, so K 2 ^ i + 1 ≤ J + 2 ^ i, and with J b < a + b
     lower : K * (b * 2 ^ i) < a + b * 2 ^ i
     lower = go (K * (b * 2 ^ i)) (J * b) (b * 2 ^ i)
-        (le-trans (le-of-eq (sym (add-mul (K * 2 ^ i) 1 b ∙ ap₂ (λ (x y : ℕ). x + y) (mul-assoc K (2 ^ i) b ∙ ap (λ (x : ℕ). K * x) (mul-comm (2 ^ i) b)) (one-mul b))))
+        (le-trans (le-of-eq (sym (add-mul (K * 2 ^ i) 1 b
+        ∙ ap₂ (λ (x y : ℕ). x + y) (mul-assoc K (2 ^ i) b ∙ ap (λ (x : ℕ). K * x) (mul-comm (2 ^ i) b)) (one-mul b))))
         (le-trans (mul-le-mul-right b (next (K * 2 ^ i) (J + 2 ^ i) (f .2))) (le-of-eq (add-mul J (2 ^ i) b ∙ ap (λ (x : ℕ). J * b + x) (mul-comm (2 ^ i) b)))))
         (e .2)
       where
@@ -238,7 +249,9 @@ module _ (hi lo d : ℕ) (L : lo < 2 ^ 64) (D : d < 64) where
   -- q * p and what is lost
   whole : q * p + m ≡ hi * 2 ^ 64 + lo
   whole =
-      ap (λ (x : ℕ). x + m) (add-mul (H * 2 ^ 64) (h * s + M) p ∙ ap₂ (λ (x y : ℕ). x + y) (mul-right-comm H (2 ^ 64) p) (add-mul (h * s) M p ∙ ap (λ (x : ℕ). x + M * p) (mul-assoc h s p ∙ ap (λ (x : ℕ). h * x) sp)))
+      ap (λ (x : ℕ). x + m) (add-mul (H * 2 ^ 64) (h * s + M) p
+      ∙ ap₂ (λ (x y : ℕ). x + y) (mul-right-comm H (2 ^ 64) p)
+      (add-mul (h * s) M p ∙ ap (λ (x : ℕ). x + M * p) (mul-assoc h s p ∙ ap (λ (x : ℕ). h * x) sp)))
       ∙ go (H * p) h (M * p) m lo hi (div-add-mod' lo p) (div-add-mod' hi p)
     where
       go : (a b c e l u : ℕ) → c + e ≡ l → a + b ≡ u → a * 2 ^ 64 + (b * 2 ^ 64 + c) + e ≡ u * 2 ^ 64 + l
@@ -258,7 +271,9 @@ module _ (hi lo d : ℕ) (L : lo < 2 ^ 64) (D : d < 64) where
       go a l = omega arith
 
   pub sticky-shift : Sticky (hi * 2 ^ 64 + lo) (2 ^ d) (H * 2 ^ 64 + jammed (bitOr (hi * s % 2 ^ 64) M) (lo * s % 2 ^ 64))
-  sticky-shift = subst (λ (x : ℕ). Sticky (hi * 2 ^ 64 + lo) (2 ^ d) (H * 2 ^ 64 + jammed x (lo * s % 2 ^ 64))) (sym low-word) (go (eqb (lo * s % 2 ^ 64) 0) refl)
+  sticky-shift =
+      subst (λ (x : ℕ). Sticky (hi * 2 ^ 64 + lo) (2 ^ d) (H * 2 ^ 64 + jammed x (lo * s % 2 ^ 64))) (sym low-word)
+      (go (eqb (lo * s % 2 ^ 64) 0) refl)
     where
       drop-zero : (x y z : ℕ) → x + y ≡ z → y ≡ 0 → z ≡ x
       drop-zero x y z e f = omega arith
@@ -283,7 +298,8 @@ module _ (hi lo d : ℕ) (L : lo < 2 ^ 64) (D : d < 64) where
       go true t = inl (drop-zero (q * p) m (hi * 2 ^ 64 + lo) whole (m-zero (eqb→eq (lo * s % 2 ^ 64) 0 (subst T (sym t) tt))))
       go false t =
           subst (λ (x : ℕ). Sticky (hi * 2 ^ 64 + lo) (2 ^ d) x) (sym (marked H (h * s + M)))
-          (sticky-up (hi * 2 ^ 64 + lo) (2 ^ d) q (over (q * p) m (hi * 2 ^ 64 + lo) whole (λ (z : m ≡ 0). true≢false (sym (eq-eqb (lo * s % 2 ^ 64) 0 (no-loss z)) ∙ t)))
+          (sticky-up (hi * 2 ^ 64 + lo) (2 ^ d) q
+          (over (q * p) m (hi * 2 ^ 64 + lo) whole (λ (z : m ≡ 0). true≢false (sym (eq-eqb (lo * s % 2 ^ 64) 0 (no-loss z)) ∙ t)))
           (lt-of-lt-of-le (under (q * p) m (hi * 2 ^ 64 + lo) p whole m-lt) (le-of-eq (sym (add-mul q 1 p ∙ ap (λ (x : ℕ). q * p + x) (one-mul p))))))
 
 -- ---- rounding a number of two words
@@ -292,7 +308,8 @@ module _ (W b S : ℕ) (B : 0 < b) (lo : 2 ^ 63 * b ≤ W) (hi : W < 2 ^ 64 * b)
   sticky-bounds (inl e) = (le-of-mul-le-mul-right (le-trans lo (le-of-eq e)) B, lt-of-mul-lt-mul-right b (lt-of-le-of-lt (le-of-eq (sym e)) hi))
   sticky-bounds (inr s) = (
     least S (lt-of-mul-lt-mul-right b (lt-of-le-of-lt lo (s .1))),
-    most S (s .0) (lt-of-mul-lt-mul-right b (lt-of-lt-of-le (s .2) (le-trans (go W (2 ^ 64 * b) hi) (le-of-eq (sym (add-mul (2 ^ 64) 1 b ∙ ap (λ (x : ℕ). 2 ^ 64 * b + x) (one-mul b))))))),
+    most S (s .0) (lt-of-mul-lt-mul-right b (lt-of-lt-of-le (s .2)
+        (le-trans (go W (2 ^ 64 * b) hi) (le-of-eq (sym (add-mul (2 ^ 64) 1 b ∙ ap (λ (x : ℕ). 2 ^ 64 * b + x) (one-mul b))))))),
   )
     where
       least : (S : ℕ) → 2 ^ 63 < S + 1 → 2 ^ 63 ≤ S
@@ -344,7 +361,10 @@ module _ (s : Bool) (e hi lo : ℕ) (U : lo < 2 ^ 64) where
     low-round =
         ap (λ (x : ℕ). round binary64 s (x * 2 ^ (e + 64 - zl)) (2 ^ 2336)) shifted
         ∙ round-same binary64 s (lo * 2 ^ zl * 2 ^ (e + 64 - zl)) (2 ^ 2336) (lo * 2 ^ e) (2 ^ 2272) (pow-pos 2336) (pow-pos 2272)
-        (ap (λ (x : ℕ). x * 2 ^ 2272) (mul-assoc lo (2 ^ zl) (2 ^ (e + 64 - zl)) ∙ ap (λ (x : ℕ). lo * x) (sym (pow-add 2 zl (e + 64 - zl)) ∙ ap (λ (x : ℕ). 2 ^ x) (go e zl (zeros-lt lo pos U)) ∙ pow-add 2 e 64) ∙ sym (mul-assoc lo (2 ^ e) (2 ^ 64))) ∙ mul-assoc (lo * 2 ^ e) (2 ^ 64) (2 ^ 2272))
+        (ap (λ (x : ℕ). x * 2 ^ 2272) (mul-assoc lo (2 ^ zl) (2 ^ (e + 64 - zl))
+        ∙ ap (λ (x : ℕ). lo * x) (sym (pow-add 2 zl (e + 64 - zl)) ∙ ap (λ (x : ℕ). 2 ^ x) (go e zl (zeros-lt lo pos U)) ∙ pow-add 2 e 64)
+        ∙ sym (mul-assoc lo (2 ^ e) (2 ^ 64)))
+        ∙ mul-assoc (lo * 2 ^ e) (2 ^ 64) (2 ^ 2272))
         ∙ ap (λ (x : ℕ). round binary64 s (x * 2 ^ e) (2 ^ 2272)) (sym (none hi lo zero-hi))
       where
         go : (e z : ℕ) → z < 64 → z + (e + 64 - z) ≡ e + 64
@@ -375,8 +395,10 @@ module _ (s : Bool) (e hi lo : ℕ) (U : lo < 2 ^ 64) where
 
     bounds : (2 ^ 63 ≤ S) × (S < 2 ^ 64)
     bounds = sticky-bounds W (2 ^ (64 - zh)) S (pow-pos (64 - zh))
-        (le-trans (le-of-eq (sym (pow-add 2 63 (64 - zh)) ∙ ap (λ (x : ℕ). 2 ^ x) (one (th .0) zh (th .1)) ∙ pow-add 2 (th .0) 64)) (le-trans (mul-le-mul-right (2 ^ 64) (th .2)) (above hi lo)))
-        (lt-of-lt-of-le (under hi lo U) (le-trans (mul-le-mul-right (2 ^ 64) (th .3)) (le-of-eq (sym (pow-add 2 (suc (th .0)) 64) ∙ ap (λ (x : ℕ). 2 ^ x) (two (th .0) zh (th .1)) ∙ pow-add 2 64 (64 - zh)))))
+        (le-trans (le-of-eq (sym (pow-add 2 63 (64 - zh)) ∙ ap (λ (x : ℕ). 2 ^ x) (one (th .0) zh (th .1)) ∙ pow-add 2 (th .0) 64))
+        (le-trans (mul-le-mul-right (2 ^ 64) (th .2)) (above hi lo)))
+        (lt-of-lt-of-le (under hi lo U) (le-trans (mul-le-mul-right (2 ^ 64) (th .3))
+        (le-of-eq (sym (pow-add 2 (suc (th .0)) 64) ∙ ap (λ (x : ℕ). 2 ^ x) (two (th .0) zh (th .1)) ∙ pow-add 2 64 (64 - zh)))))
         st
       where
         one : (j z : ℕ) → z + suc j ≡ 64 → 63 + (64 - z) ≡ j + 64
@@ -405,7 +427,8 @@ module _ (s : Bool) (e hi lo : ℕ) (U : lo < 2 ^ 64) where
         ap (λ (x : ℕ). round binary64 s (x * 2 ^ (e + 128 - zh)) (2 ^ 2336)) (sym S-is)
         ∙ sym (round-sticky binary64 s (W * 2 ^ e) (2 ^ 2272) S (e + 128 - zh) 2336 (pow-pos 2272) (le-trans (lit≤ tt) (bounds .0))
         (subst (λ (x : ℕ). Sticky x (2 ^ 2272 * 2 ^ (e + 128 - zh)) S) (ap (λ (x : ℕ). W * x) (pow-add 2 e 2336) ∙ sym (mul-assoc W (2 ^ e) (2 ^ 2336)))
-        (subst (λ (x : ℕ). Sticky (W * 2 ^ (e + 2336)) x S) (sym (pow-add 2 (64 - zh) (e + 2336)) ∙ ap (λ (x : ℕ). 2 ^ x) (go e zh (zeros-lt hi hi-pos Uh)) ∙ pow-add 2 2272 (e + 128 - zh))
+        (subst (λ (x : ℕ). Sticky (W * 2 ^ (e + 2336)) x S)
+        (sym (pow-add 2 (64 - zh) (e + 2336)) ∙ ap (λ (x : ℕ). 2 ^ x) (go e zh (zeros-lt hi hi-pos Uh)) ∙ pow-add 2 2272 (e + 128 - zh))
         (sticky-times W (2 ^ (64 - zh)) (2 ^ (e + 2336)) S (pow-pos (e + 2336)) st))))
       where
         go : (e z : ℕ) → z < 64 → 64 - z + (e + 2336) ≡ 2272 + (e + 128 - z)

@@ -17,7 +17,8 @@ wholeRoot (suc k) n = nextRoot n (2 * wholeRoot k (n / 4))
 abbrev pub doubled : ℕ → ℕ → ℕ
 doubled n q = 2 * q + cond (eqb (q * q) n) 0 1
 
--- √n * 2 ^ -1074, rounded. A float of that size or half way between two is a whole number of 2 ^ -1074, so every number between q and q + 1 of them rounds alike, and q + 1 / 2 stands for √n.
+-- √n * 2 ^ -1074, rounded. A float of that size or half way between two is a whole number of 2 ^ -1074, so every number between q and q + 1 of
+-- them rounds alike, and q + 1 / 2 stands for √n.
 unfoldable pub rootUnits : ℕ → Float
 rootUnits n = round binary64 false (doubled n (wholeRoot 1586 n)) (2 ^ 1075)
 

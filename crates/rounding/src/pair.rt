@@ -5,7 +5,6 @@ ghost use Prim.Native.Nat.{_+_, _*_, _^_, _≤_, _<_};
 ghost use lib.Dec.{T};
 ghost use lib.Ieee.{binary64, ofBits, toBits, isNan};
 ghost use Rattle.rounding.specs.Root.{root};
-use super::pack::Parts;
 use super::pack::parts_of;
 use super::root::root;
 

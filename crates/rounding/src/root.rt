@@ -3,7 +3,6 @@ ghost use mathlib.Core.Path.{_≡_};
 ghost use Prim.Native.Nat.{_+_, _*_, _^_, _≤_, _<_};
 ghost use lib.Ieee.{binary64, ofBits};
 ghost use Rattle.rounding.specs.Root.{root};
-use super::pack::Parts;
 use super::pack::parts_of;
 
 // The whole part of the square root of w * 2^54, one binary digit a turn. With the digits found so far at the top of

@@ -18,7 +18,8 @@ next-start i = omega arith
 pub next-index : (i j : ℕ) → 3 * suc i + j ≡ suc (suc (suc (3 * i + j)))
 next-index i j = omega arith
 
-pub row-of : (s : List Float) (i : ℕ) → 3 * i + 2 < length s → rowAt (rowsOf s) i ≡ record { a = getD s (3 * i) nan; b = getD s (3 * i + 1) nan; c = getD s (3 * i + 2) nan }
+pub row-of : (s : List Float) (i : ℕ) → 3 * i + 2 < length s
+    → rowAt (rowsOf s) i ≡ record { a = getD s (3 * i) nan; b = getD s (3 * i + 1) nan; c = getD s (3 * i + 2) nan }
 unfolding rowAt rowsOf
 row-of [] i h = absurd (omega arith)
 row-of (a ∷ []) i h = absurd (omega arith)
@@ -45,7 +46,8 @@ unfolding rowAt
 next-of rows i h = drop-cons rows i zeros h ∙ ap (λ n. rowAt rows i ∷ drop n rows) (sym (add-one i))
 
 -- of those before `upto`
-pub next-row : (s : List Float) (upto i : ℕ) → i < upto → 3 * upto ≤ length s → drop i (take upto (rowsOf s)) ≡ rowAt (rowsOf s) i ∷ drop (i + 1) (take upto (rowsOf s))
+pub next-row : (s : List Float) (upto i : ℕ) → i < upto → 3 * upto ≤ length s
+    → drop i (take upto (rowsOf s)) ≡ rowAt (rowsOf s) i ∷ drop (i + 1) (take upto (rowsOf s))
 unfolding rowAt
 next-row s upto i h k =
     next-of (take upto (rowsOf s)) i (omega (arith, length-take upto (rowsOf s), enough-rows s upto k))

@@ -12,6 +12,7 @@ use lib.Ieee.Fits.{up-pos, down-pos}
 use Rattle.float.specs.Operators.{if_then_else_}
 use Rattle.float.specs.Float as float
 use Rattle.rounding.specs.Root.{root, rootUnits}
+use Rattle.rounding.proofs.Special.{root-zero}
 use Rattle.rows.specs.declared.Row.{Row}
 use Rattle.rows.specs.Rows.{zeros, normalizedBy}
 
@@ -21,10 +22,6 @@ same-whole a b c d k c-positive d-positive h =
     sym (mul-div-mul-right (a * k) c d-positive)
     ∙ ap₂ (λ (x y : ℕ). x / y) (mul-right-comm a k d ∙ ap (λ (x : ℕ). x * k) h ∙ mul-right-comm b c k) (mul-comm c d)
     ∙ mul-div-mul-right (b * k) d c-positive
-
-root-zero : (s : Bool) (e : ℤ) → root (fin s 0 e) ≡ fin s 0 e
-unfolding root
-root-zero s e = refl
 
 root-other : (s : Bool) (m : ℕ) (e : ℤ) → root (fin s (suc m) e) ≡ cond s nan (rootUnits (suc m * up e * 4 ^ 1074 / down e))
 unfolding root
@@ -45,12 +42,19 @@ same-sign false false a h k = refl
 same-sign true false a h k = absurd (omega (arith, eqb-true a 0 k))
 same-sign false true a h k = absurd (omega (arith, eqb-true a 0 k))
 
-finite-alike : (s : Bool) (m : ℕ) (e : ℤ) (t : Bool) (n : ℕ) (d : ℤ) (r : Row) → (m * up e * down d ≡ n * up d * down e) × (Bool·beq s t || eqb (m * up e * down d) 0 ≡ true) → normalizedBy (root (fin s m e)) r ≡ normalizedBy (root (fin t n d)) r
+finite-alike : (s : Bool) (m : ℕ) (e : ℤ) (t : Bool) (n : ℕ) (d : ℤ) (r : Row)
+    → (m * up e * down d ≡ n * up d * down e) × (Bool·beq s t || eqb (m * up e * down d) 0 ≡ true)
+    → normalizedBy (root (fin s m e)) r ≡ normalizedBy (root (fin t n d)) r
 finite-alike s zero e t zero d r h = rw (root-zero s e, root-zero t d, zero-norm s e, zero-norm t d)
 finite-alike s zero e t (suc n) d r h = absurd (omega (arith, h .0, positive n d e))
 finite-alike s (suc m) e t zero d r h = absurd (omega (arith, h .0, positive m e d))
 finite-alike s (suc m) e t (suc n) d r h =
-    rw (root-other s m e, root-other t n d, same-sign s t (suc m * up e * down d) (positive m e d) (h .1), same-whole (suc m * up e) (suc n * up d) (down e) (down d) (4 ^ 1074) (down-pos e) (down-pos d) (h .0))
+    rw (
+      root-other s m e,
+      root-other t n d,
+      same-sign s t (suc m * up e * down d) (positive m e d) (h .1),
+      same-whole (suc m * up e) (suc n * up d) (down e) (down d) (4 ^ 1074) (down-pos e) (down-pos d) (h .0),
+    )
 
 alike : (x y : Float) (r : Row) → eq x y ≡ true → normalizedBy (root x) r ≡ normalizedBy (root y) r
 unfolding eq root

@@ -17,7 +17,8 @@ rows-set [] i a b c h = absurd (omega arith)
 rows-set (u ∷ []) i a b c h = absurd (omega arith)
 rows-set (u ∷ v ∷ []) i a b c h = absurd (omega arith)
 rows-set (u ∷ v ∷ w ∷ s) zero a b c h = refl
-rows-set (u ∷ v ∷ w ∷ s) (suc i) a b c h = rw (next-index i 1, next-index i 2, next-start i) (ap {B = List Row} (λ l. record { a = u; b = v; c = w } ∷ l) (rows-set s i a b c (omega arith)))
+rows-set (u ∷ v ∷ w ∷ s) (suc i) a b c h =
+    rw (next-index i 1, next-index i 2, next-start i) (ap {B = List Row} (λ l. record { a = u; b = v; c = w } ∷ l) (rows-set s i a b c (omega arith)))
 
 -- whole rows come back
 pub flat-rows : (s : List Float) (n : ℕ) → 3 * n ≡ length s → flatOf (rowsOf s) ≡ s

@@ -3,7 +3,8 @@ ghost use mathlib.Core.Path.{_≡_};
 ghost use Prim.Native.Nat.{_+_, _*_, _<_};
 ghost use lib.ListN.{length, set};
 ghost use Rattle.rounding.specs.Root.{root};
-ghost use Rattle.rows.specs.Rows.{rowsOf, flatOf, rowAt, refusal, residual, noBoundary, normalizedBy, normalized, normalizing, normalizedFlat, singular, crossing};
+ghost use Rattle.rows.specs.Rows.{rowsOf, flatOf, rowAt, refusal, residual, noBoundary, normalizedBy, normalized};
+ghost use Rattle.rows.specs.Rows.{normalizing, normalizedFlat, singular, crossing};
 
 // a*x + b*y <= c; for `solve_2x2`, a*x + b*y = c.
 #[repr(C)]

@@ -39,7 +39,8 @@ module _ (F : Frame) (others : List Row) (i : ℕ) (r : Row) (s : State) (left :
     unfolding flatStep
     flat-spent e = goes-no-further left _ _ (rw (ps, qs) at e)
 
-    pub flat-done : {t : Span} {l : ℕ} → along false p q ≡ paid t l → within left (flatStep F others i r s) ≡ paid (flatEnd (F .bound) p q i (uncrossed (F .epsilon) t)) l
+    pub flat-done : {t : Span} {l : ℕ} → along false p q ≡ paid t l
+        → within left (flatStep F others i r s) ≡ paid (flatEnd (F .bound) p q i (uncrossed (F .epsilon) t)) l
     unfolding flatStep
     flat-done {t} {l} e = goes-on left _ _ (rw (ps, qs) at e) ∙ rw (ps, qs) (within-pure l _)
 

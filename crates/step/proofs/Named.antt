@@ -32,12 +32,14 @@ ChosenBelow n c = BothBelow n (c .active)
 
 module _ {n : ℕ} where
   -- one after the other
-  onward-below : {f : State → Counted Found} → ((s : State) → StateBelow n s → f s gives FoundBelow n) → (found : Found) → FoundBelow n found → onward f found gives FoundBelow n
+  onward-below : {f : State → Counted Found} → ((s : State) → StateBelow n s → f s gives FoundBelow n)
+      → (found : Found) → FoundBelow n found → onward f found gives FoundBelow n
   unfolding onward
   onward-below k Failed below = pure-gives Failed tt
   onward-below k (Done s) below = k s below
 
-  pub bind?-below : {m : Counted Found} {f : State → Counted Found} → m gives FoundBelow n → ((s : State) → StateBelow n s → f s gives FoundBelow n) → (m >>? f) gives FoundBelow n
+  pub bind?-below : {m : Counted Found} {f : State → Counted Found} → m gives FoundBelow n
+      → ((s : State) → StateBelow n s → f s gives FoundBelow n) → (m >>? f) gives FoundBelow n
   unfolding _>>?_
   bind?-below h k = bind-gives h (onward-below k)
 
@@ -56,7 +58,10 @@ module _ {n : ℕ} where
     chosen-below p bound s below =
         let first = setFirst-below i h below in
         let second = setSecond-below i h below in
-        either (ChosenBelow n) _ second (either (ChosenBelow n) _ first (either (ChosenBelow n) _ first (either (ChosenBelow n) _ second (setFirst-below i h noRows-below))))
+        either (ChosenBelow n) _ second
+        (either (ChosenBelow n) _ first
+        (either (ChosenBelow n) _ first
+        (either (ChosenBelow n) _ second (setFirst-below i h noRows-below))))
 
     flatEnd-below : (bound p q : Float) (w : Narrowed) → NarrowedBelow n w → FoundBelow n (flatEnd bound p q i w)
     unfolding flatEnd
@@ -67,13 +72,20 @@ module _ {n : ℕ} where
     module _ (F : Frame) (others : List Row) (few : length others ≤ n) (r : Row) (s : State) (below : StateBelow n s) where
       steepStep-below : steepStep F others i r s gives FoundBelow n
       unfolding steepStep wholeLine
-      steepStep-below = bind-gives (lp1dCore-below true true _ _ 0 _ (rw length-map (omega arith)) below) (λ t below′. pure-gives _ (steepEnd-below _ _ s t below′))
+      steepStep-below =
+          bind-gives (lp1dCore-below true true _ _ 0 _ (rw length-map (omega arith)) below)
+          (λ t below′. pure-gives _ (steepEnd-below _ _ s t below′))
 
       flatStep-below : flatStep F others i r s gives FoundBelow n
       unfolding flatStep wholeLine
-      flatStep-below = bind-gives (lp1dCore-below false true _ _ 0 _ (rw length-map (omega arith)) below) (λ t below′. pure-gives _ (flatEnd-below _ _ _ _ (uncrossed-below _ t below′)))
+      flatStep-below =
+          bind-gives (lp1dCore-below false true _ _ 0 _ (rw length-map (omega arith)) below)
+          (λ t below′. pure-gives _ (flatEnd-below _ _ _ _ (uncrossed-below _ t below′)))
 
-  pub step-below : (R : List Row) (F : Frame) (upto i : ℕ) (s : State) → length (take upto R) ≤ n → i < n → StateBelow n s → step R F upto i s gives FoundBelow n
+  pub step-below : (R : List Row) (F : Frame) (upto i : ℕ) (s : State) → length (take upto R) ≤ n → i < n → StateBelow n s
+      → step R F upto i s gives FoundBelow n
   unfolding step
   step-below R F upto i s few h below =
-      read-gives 1 (if-gives _ (pure-gives _ (either (FoundBelow n) _ below tt)) (if-gives _ (steepStep-below i h F _ few _ s below) (flatStep-below i h F _ few _ s below)))
+      read-gives 1
+      (if-gives _ (pure-gives _ (either (FoundBelow n) _ below tt))
+      (if-gives _ (steepStep-below i h F _ few _ s below) (flatStep-below i h F _ few _ s below)))

@@ -22,7 +22,8 @@ void-passes ε s = refl
 
 module _ (bound p q ε : Float) (i : ℕ) (s : Span) where
   -- whatever the slope, the step is done
-  pub void-succeeds : let c = chosen i p bound (void s) in flatEnd bound p q i (uncrossed ε (void s)) ≡ Done (record { at = record { x = c .x; y = p ⊗ c .x ⊖ q }; active = c .active })
+  pub void-succeeds : let c = chosen i p bound (void s) in
+      flatEnd bound p q i (uncrossed ε (void s)) ≡ Done (record { at = record { x = c .x; y = p ⊗ c .x ⊖ q }; active = c .active })
   unfolding flatEnd
   void-succeeds = ap (flatEnd bound p q i) (void-passes ε s)
 

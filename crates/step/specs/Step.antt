@@ -77,7 +77,8 @@ flatStep F others i r s =
     let inverse = one ⊘ r .b in
     let p = neg (r .a) ⊗ inverse in
     let q = neg (r .c) ⊗ inverse in
-    lp1dCore false true (F .reduced) (map (onLine false p q) others) 0 (wholeLine (s .active)) >>= λ t. pure (flatEnd (F .bound) p q i (uncrossed (F .epsilon) t))
+    lp1dCore false true (F .reduced) (map (onLine false p q) others) 0 (wholeLine (s .active))
+    >>= λ t. pure (flatEnd (F .bound) p q i (uncrossed (F .epsilon) t))
 
 -- ---- the step
 

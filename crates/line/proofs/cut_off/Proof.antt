@@ -21,17 +21,32 @@ returns-2 c = rw (← c .before .before .before .coefficient-is-zero .ensures, c
 returns-3 : tie.Need-returns-3
 unfolding cutOff if_then_else_ zero
 returns-3 c =
-    ⊎-elim (λ w. rw (← c .before .before .before .before .before .before .before .before .coefficient-is-zero .ensures, c .before .before .before .before .before .before .before .if1 .left, c .if5 .taken, ← w .1, c .before .before .if4 .taken)) (λ w. cc) (c .before .before .before .before .before .if3 .came)
+    let selected = c .before .before .before .before .before in
+    let tested = selected .before .before in
+    ⊎-elim
+    (λ w. rw (← tested .before .coefficient-is-zero .ensures, tested .if1 .left, c .if5 .taken, ← w .1, c .before .before .if4 .taken))
+    (λ w. cc)
+    (selected .if3 .came)
 
 returns-4 : tie.Need-returns-4
 unfolding cutOff if_then_else_ zero
 returns-4 c =
-    ⊎-elim (λ w. cc) (λ w. rw (← c .before .before .before .before .before .before .before .before .coefficient-is-zero .ensures, c .before .before .before .before .before .before .before .if1 .left, c .if5 .left, ← w .1, c .before .before .if4 .taken)) (c .before .before .before .before .before .if3 .came)
+    let selected = c .before .before .before .before .before in
+    let tested = selected .before .before in
+    ⊎-elim
+    (λ w. cc)
+    (λ w. rw (← tested .before .coefficient-is-zero .ensures, tested .if1 .left, c .if5 .left, ← w .1, c .before .before .if4 .taken))
+    (selected .if3 .came)
 
 returns-5 : tie.Need-returns-5
 unfolding cutOff if_then_else_ zero
 returns-5 c =
-    ⊎-elim (λ w. rw (← c .before .before .before .before .before .before .coefficient-is-zero .ensures, c .before .before .before .before .before .if1 .left, w .0 .taken, ← w .1, c .if4 .left)) (λ w. rw (← c .before .before .before .before .before .before .coefficient-is-zero .ensures, c .before .before .before .before .before .if1 .left, w .0 .left, ← w .1, c .if4 .left)) (c .before .before .before .if3 .came)
+    let selected = c .before .before .before in
+    let tested = selected .before .before in
+    ⊎-elim
+    (λ w. rw (← tested .before .coefficient-is-zero .ensures, tested .if1 .left, w .0 .taken, ← w .1, c .if4 .left))
+    (λ w. rw (← tested .before .coefficient-is-zero .ensures, tested .if1 .left, w .0 .left, ← w .1, c .if4 .left))
+    (selected .if3 .came)
 
 pub cut-off-spec : {M : Type 1} → statement M
 cut-off-spec =

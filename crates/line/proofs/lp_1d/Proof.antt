@@ -32,7 +32,15 @@ settled-requires-2 c κs = search needs
 returns-2 : tie.Need-returns-2
 unfolding lp1d if_then_else_
 returns-2 c =
-    rw (← c .before .before .before .before .refusal .ensures, eq-eqb _ _ (c .before .before .before .if1 .left), c .before .settled .ensures, c .settled2 .ensures, ← c .before .before .span-of .ensures)
+    let span = c .before .before in
+    let even = span .before in
+    rw (
+      ← even .before .refusal .ensures,
+      eq-eqb _ _ (even .if1 .left),
+      c .before .settled .ensures,
+      c .settled2 .ensures,
+      ← span .span-of .ensures,
+    )
 
 pub lp-1d-spec : {M : Type 1} → statement M
 lp-1d-spec =

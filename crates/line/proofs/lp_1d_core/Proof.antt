@@ -17,7 +17,9 @@ use Rattle.line.proofs.lp_1d_core.Tie as tie
 
 abbrev Inv-loop : tie.InvT-loop
 Inv-loop rows upto steep p q eps left high₀ low₀ first₀ second₀ rest₀ k₀ high low first second rest k =
-    (k ≤ upto) × (within rest (lp1dCore steep true eps (map (onLine steep p q) (drop k (take upto (rowsOf rows)))) k (span high low first second)) ≡ within rest₀ (lp1dCore steep true eps (map (onLine steep p q) (take upto (rowsOf rows))) 0 (span high₀ low₀ first₀ second₀)))
+    (k ≤ upto)
+    × (within rest (lp1dCore steep true eps (map (onLine steep p q) (drop k (take upto (rowsOf rows)))) k (span high low first second))
+    ≡ within rest₀ (lp1dCore steep true eps (map (onLine steep p q) (take upto (rowsOf rows))) 0 (span high₀ low₀ first₀ second₀)))
 
 abbrev μ-loop : tie.MeasureT-loop
 μ-loop rows upto steep p q eps left high₀ low₀ first₀ second₀ rest₀ k₀ high low first second rest k = upto - k
@@ -34,9 +36,16 @@ loop-holds c = (omega arith, refl)
 returns : tie.Need-returns Inv-loop μ-loop
 unfolding reduced
 returns c =
-    let a = c .before .before .before .before .before .before .args in
-    let l = c .before .before .loop in
-    rw (← whole-line (c .before .before .before .infinity .ensures) (c .before .before .before .before .fresh .ensures)) (ap reduced (sym (row-stops (a .steep) (a .eps) (onLine (a .steep) (a .p) (a .q)) (now (a .rows)) (a .upto) (l .k) (l .rest) (span (l .high) (l .low) (l .first) (l .second)) (c .before .loop-test .taken) (c .before .before .before .before .before .before .pre) (c .if1 .taken)) ∙ l .inv .1))
+    let tested = c .before in
+    let ends = tested .before .before in
+    let start = ends .before .before .before in
+    let a = start .args in
+    let l = tested .before .loop in
+    rw (← whole-line (ends .infinity .ensures) (ends .before .fresh .ensures))
+    (ap reduced
+    (sym (row-stops (a .steep) (a .eps) (onLine (a .steep) (a .p) (a .q)) (now (a .rows)) (a .upto) (l .k) (l .rest)
+    (span (l .high) (l .low) (l .first) (l .second)) (tested .loop-test .taken) (start .pre) (c .if1 .taken))
+    ∙ l .inv .1))
 
 sub-rest : tie.Need-sub-rest Inv-loop μ-loop
 sub-rest c = search needs
@@ -71,10 +80,22 @@ void-requires c κs = search needs
 returns-2 : tie.Need-returns-2 Inv-loop μ-loop
 unfolding reduced
 returns-2 c =
-    let a = c .before .before .before .before .before .before .before .before .before .before .before .before .before .args in
-    let l = c .before .before .before .before .before .before .before .before .before .loop in
+    let cut = c .before .before .before .before in
+    let term = cut .before in
+    let some = term .before .before in
+    let tested = some .before in
+    let ends = tested .before .before in
+    let start = ends .before .before .before in
+    let a = start .args in
+    let l = tested .before .loop in
     let v = span (l .high) (l .low) (l .first) (l .second) in
-    rw (c .void .ensures, c .before .between .ensures, ← whole-line (c .before .before .before .before .before .before .before .before .before .before .infinity .ensures) (c .before .before .before .before .before .before .before .before .before .before .before .fresh .ensures)) (ap reduced (sym (row-empties (a .steep) (a .eps) (onLine (a .steep) (a .p) (a .q)) (now (a .rows)) (a .upto) (l .k) (l .rest) v (c .before .before .before .before .before .before .before .before .loop-test .taken) (c .before .before .before .before .before .before .before .before .before .before .before .before .before .pre) (omega (arith, c .before .before .before .before .before .before .before .if1 .left)) (rw (← c .before .before .before .before .before .before .row-at .ensures, ← c .before .before .before .before .before .on-line .ensures) (cuts-all true (a .eps) (l .k) (c .before .before .before .before .before .on-line .result) v (c .before .before .before .before .cut-off .ensures) (c .before .before .enum-told2 .given .1)))) ∙ l .inv .1))
+    rw (c .void .ensures, c .before .between .ensures, ← whole-line (ends .infinity .ensures) (ends .before .fresh .ensures))
+    (ap reduced
+    (sym (row-empties (a .steep) (a .eps) (onLine (a .steep) (a .p) (a .q)) (now (a .rows)) (a .upto) (l .k) (l .rest) v
+    (tested .loop-test .taken) (start .pre) (omega (arith, some .if1 .left))
+    (rw (← term .before .row-at .ensures, ← term .on-line .ensures)
+    (cuts-all true (a .eps) (l .k) (term .on-line .result) v (cut .cut-off .ensures) (c .before .before .enum-told2 .given .1))))
+    ∙ l .inv .1))
 
 add-k : tie.Need-add-k Inv-loop μ-loop
 add-k c = search needs
@@ -84,12 +105,26 @@ loop-less c = search needs
 
 loop-again : tie.Need-loop-again Inv-loop μ-loop
 loop-again c =
-    let a = c .before .before .before .before .before .before .before .before .before .before .args in
-    let l = c .before .before .before .before .before .before .loop in
+    let cut = c .before in
+    let term = cut .before in
+    let some = term .before .before in
+    let tested = some .before in
+    let start = tested .before .before .before .before .before in
+    let a = start .args in
+    let l = tested .before .loop in
     let v = span (l .high) (l .low) (l .first) (l .second) in
     let m = c .match in
-    let w = span (m .high) (m .low) (m .first) (m .second) in
-    (omega arith, sym (row-keeps (a .steep) (a .eps) (onLine (a .steep) (a .p) (a .q)) (now (a .rows)) (a .upto) (l .k) (l .rest) v (c .before .before .before .before .before .loop-test .taken) (c .before .before .before .before .before .before .before .before .before .before .pre) w (omega (arith, c .before .before .before .before .if1 .left)) (rw (← c .before .before .before .row-at .ensures, ← c .before .before .on-line .ensures) (goes-on true (a .eps) (l .k) (c .before .before .on-line .result) v (c .before .cut-off .ensures) w (m .came) (λ x. (x .1 .given .1, x .2, x .3, x .4, x .5)) (λ x. (x .1 .given .0 .0, x .1 .given .1, x .3, x .4, x .5, x .6)) (λ x. (x .1 .given .0 .0, x .1 .given .1, x .3, x .4, x .5, x .6))))) ∙ l .inv .1)
+    let w = span (m .high) (m .low) (m .first) (m .second) in (
+      omega arith,
+      sym (row-keeps (a .steep) (a .eps) (onLine (a .steep) (a .p) (a .q)) (now (a .rows)) (a .upto) (l .k) (l .rest) v
+          (tested .loop-test .taken) (start .pre) w (omega (arith, some .if1 .left))
+          (rw (← term .before .row-at .ensures, ← term .on-line .ensures)
+          (goes-on true (a .eps) (l .k) (term .on-line .result) v (cut .cut-off .ensures) w (m .came)
+          (λ x. (x .1 .given .1, x .2, x .3, x .4, x .5))
+          (λ x. (x .1 .given .0 .0, x .1 .given .1, x .3, x .4, x .5, x .6))
+          (λ x. (x .1 .given .0 .0, x .1 .given .1, x .3, x .4, x .5, x .6)))))
+          ∙ l .inv .1,
+    )
 
 between-requires-2 : tie.Need-between-requires-2 Inv-loop μ-loop
 between-requires-2 c κs = search needs
@@ -100,9 +135,15 @@ meeting-requires c κs = search needs
 returns-3 : tie.Need-returns-3 Inv-loop μ-loop
 unfolding reduced
 returns-3 c =
-    let a = c .before .before .before .before .before .before .before .args in
-    let l = c .before .before .before .loop in
-    rw (c .meeting .ensures, c .before .between2 .ensures, ← whole-line (c .before .before .before .before .infinity .ensures) (c .before .before .before .before .before .fresh .ensures)) (ap reduced (sym (rows-end (a .steep) (a .eps) (onLine (a .steep) (a .p) (a .q)) (now (a .rows)) (a .upto) (l .k) (l .rest) (span (l .high) (l .low) (l .first) (l .second)) (c .before .before .loop-test .left)) ∙ l .inv .1))
+    let tested = c .before .before in
+    let ends = tested .before .before in
+    let a = ends .before .before .before .args in
+    let l = tested .before .loop in
+    rw (c .meeting .ensures, c .before .between2 .ensures, ← whole-line (ends .infinity .ensures) (ends .before .fresh .ensures))
+    (ap reduced
+    (sym (rows-end (a .steep) (a .eps) (onLine (a .steep) (a .p) (a .q)) (now (a .rows)) (a .upto) (l .k) (l .rest)
+    (span (l .high) (l .low) (l .first) (l .second)) (tested .loop-test .left))
+    ∙ l .inv .1))
 
 pub lp-1d-core-spec : {M : Type 1} → statement M
 lp-1d-core-spec =

@@ -17,18 +17,30 @@ max-requires c κs = search needs
 
 returns : tie.Need-returns
 unfolding meeting if_then_else_ epsRounding half
-returns c = rw (c .before .before .before .before .before .before .if1 .taken, ← c .before .before .before .before .abs .ensures, ← c .before .before .before .abs2 .ensures, ← c .before .before .max .ensures, c .before .if2 .taken, c .if3 .taken)
+returns c =
+    let room = c .before .before in
+    let size = room .before in
+    let on = size .before .before .before in
+    rw (on .if1 .taken, ← size .before .abs .ensures, ← size .abs2 .ensures, ← room .max .ensures, c .before .if2 .taken, c .if3 .taken)
 
 returns-2 : tie.Need-returns-2
 unfolding meeting if_then_else_ epsRounding half
-returns-2 c = rw (c .before .before .before .before .before .before .if1 .taken, ← c .before .before .before .before .abs .ensures, ← c .before .before .before .abs2 .ensures, ← c .before .before .max .ensures, c .before .if2 .taken, c .if3 .left)
+returns-2 c =
+    let room = c .before .before in
+    let size = room .before in
+    let on = size .before .before .before in
+    rw (on .if1 .taken, ← size .before .abs .ensures, ← size .abs2 .ensures, ← room .max .ensures, c .before .if2 .taken, c .if3 .left)
 
 void-requires : tie.Need-void-requires
 void-requires c κs = search needs
 
 returns-3 : tie.Need-returns-3
 unfolding meeting if_then_else_ epsRounding half
-returns-3 c = rw (c .before .before .before .before .before .before .if1 .taken, ← c .before .before .before .before .abs .ensures, ← c .before .before .before .abs2 .ensures, ← c .before .before .max .ensures, c .before .if2 .left, ← c .void .ensures)
+returns-3 c =
+    let room = c .before .before in
+    let size = room .before in
+    let on = size .before .before .before in
+    rw (on .if1 .taken, ← size .before .abs .ensures, ← size .abs2 .ensures, ← room .max .ensures, c .before .if2 .left, ← c .void .ensures)
 
 returns-4 : tie.Need-returns-4
 unfolding meeting if_then_else_ epsRounding half

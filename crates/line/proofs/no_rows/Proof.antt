@@ -1,3 +1,4 @@
+-- `line::no_rows` meets its contract.
 use Rattle.line.specs.Active.{noRows}
 use borrow.Author.Needs.{needs}
 use Rattle.line.proofs.no_rows.Statement.{statement}

@@ -1,3 +1,4 @@
+-- `line::on_line` meets its contract.
 use Rattle.line.specs.Line.{onLine, onX, onY}
 use borrow.Author.Needs.{needs}
 use Rattle.line.proofs.on_line.Statement.{statement}
@@ -11,7 +12,9 @@ abs-requires-2 c κs = search needs
 
 returns : tie.Need-returns
 unfolding onLine onX onY
-returns c = simp (c .before .before .before .before .before .before .if1 .taken, ← c .before .before .before .before .abs .ensures, ← c .before .before .before .abs2 .ensures)
+returns c =
+    let size = c .before .before .before in
+    simp (size .before .before .before .if1 .taken, ← size .before .abs .ensures, ← size .abs2 .ensures)
 
 abs-requires-3 : tie.Need-abs-requires-3
 abs-requires-3 c κs = search needs
@@ -21,7 +24,9 @@ abs-requires-4 c κs = search needs
 
 returns-2 : tie.Need-returns-2
 unfolding onLine onX onY
-returns-2 c = simp (c .before .before .before .before .before .before .if1 .left, ← c .before .before .before .before .abs3 .ensures, ← c .before .before .before .abs4 .ensures)
+returns-2 c =
+    let size = c .before .before .before in
+    simp (size .before .before .before .if1 .left, ← size .before .abs3 .ensures, ← size .abs4 .ensures)
 
 pub on-line-spec : {M : Type 1} → statement M
 on-line-spec =

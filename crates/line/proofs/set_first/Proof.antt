@@ -1,3 +1,4 @@
+-- `line::set_first` meets its contract.
 use Rattle.line.specs.Active.{setFirst}
 use borrow.Author.Needs.{needs}
 use Rattle.line.proofs.set_first.Statement.{statement}

@@ -1,3 +1,4 @@
+-- `line::set_second` meets its contract.
 use Rattle.line.specs.Active.{setSecond}
 use borrow.Author.Needs.{needs}
 use Rattle.line.proofs.set_second.Statement.{statement}

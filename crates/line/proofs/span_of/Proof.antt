@@ -16,7 +16,9 @@ use Rattle.line.proofs.span_of.Tie as tie
 
 abbrev Inv-loop : tie.InvT-loop
 Inv-loop pairs n autonan eps high₀ low₀ first₀ second₀ k₀ high low first second k =
-    (k ≤ n) × (lp1dCore autonan false eps (drop k (pairsOf pairs)) k (span high low first second) .value ≡ lp1dCore autonan false eps (pairsOf pairs) 0 (span high₀ low₀ first₀ second₀) .value)
+    (k ≤ n)
+    × (lp1dCore autonan false eps (drop k (pairsOf pairs)) k (span high low first second) .value
+    ≡ lp1dCore autonan false eps (pairsOf pairs) 0 (span high₀ low₀ first₀ second₀) .value)
 
 abbrev μ-loop : tie.MeasureT-loop
 μ-loop pairs n autonan eps high₀ low₀ first₀ second₀ k₀ high low first second k = n - k
@@ -54,10 +56,19 @@ void-requires c κs = search needs
 returns : tie.Need-returns Inv-loop μ-loop
 unfolding noRows
 returns c =
-    let a = c .before .before .before .before .before .before .before .before .before .before .args in
-    let l = c .before .before .before .before .before .before .before .loop in
+    let cut = c .before .before .before .before in
+    let pair = cut .before in
+    let tested = pair .before in
+    let ends = tested .before .before in
+    let start = ends .before .before in
+    let a = start .args in
+    let l = tested .before .loop in
     let v = span (l .high) (l .low) (l .first) (l .second) in
-    rw (c .void .ensures, c .before .between .ensures, ← whole-line {act = noRows} (c .before .before .before .before .before .before .before .before .infinity .ensures) refl) (sym (pair-empties (a .autonan) (a .eps) (now (a .pairs)) (a .n) (l .k) v (c .before .before .before .before .before .before .before .before .before .before .pre) (c .before .before .before .before .before .before .loop-test .taken) (rw (← c .before .before .before .before .before .pair-at .ensures) (cuts-all false (a .eps) (l .k) (c .before .before .before .before .before .pair-at .result) v (c .before .before .before .before .cut-off .ensures) (c .before .before .enum-told2 .given .1)))) ∙ l .inv .1)
+    rw (c .void .ensures, c .before .between .ensures, ← whole-line {act = noRows} (ends .infinity .ensures) refl)
+    (sym (pair-empties (a .autonan) (a .eps) (now (a .pairs)) (a .n) (l .k) v (start .pre) (tested .loop-test .taken)
+    (rw (← pair .pair-at .ensures)
+    (cuts-all false (a .eps) (l .k) (pair .pair-at .result) v (cut .cut-off .ensures) (c .before .before .enum-told2 .given .1))))
+    ∙ l .inv .1)
 
 add-k : tie.Need-add-k Inv-loop μ-loop
 add-k c = search needs
@@ -67,12 +78,24 @@ loop-less c = search needs
 
 loop-again : tie.Need-loop-again Inv-loop μ-loop
 loop-again c =
-    let a = c .before .before .before .before .before .before .before .args in
-    let l = c .before .before .before .before .loop in
+    let cut = c .before in
+    let pair = cut .before in
+    let tested = pair .before in
+    let start = tested .before .before .before .before in
+    let a = start .args in
+    let l = tested .before .loop in
     let v = span (l .high) (l .low) (l .first) (l .second) in
     let m = c .match in
-    let w = span (m .high) (m .low) (m .first) (m .second) in
-    (omega arith, sym (pair-keeps (a .autonan) (a .eps) (now (a .pairs)) (a .n) (l .k) v (c .before .before .before .before .before .before .before .pre) (c .before .before .before .loop-test .taken) w (rw (← c .before .before .pair-at .ensures) (goes-on false (a .eps) (l .k) (c .before .before .pair-at .result) v (c .before .cut-off .ensures) w (m .came) (λ x. (x .1 .given .1, x .2, x .3, x .4, x .5)) (λ x. (x .1 .given .0 .0, x .1 .given .1, x .3, x .4, x .5, x .6)) (λ x. (x .1 .given .0 .0, x .1 .given .1, x .3, x .4, x .5, x .6))))) ∙ l .inv .1)
+    let w = span (m .high) (m .low) (m .first) (m .second) in (
+      omega arith,
+      sym (pair-keeps (a .autonan) (a .eps) (now (a .pairs)) (a .n) (l .k) v (start .pre) (tested .loop-test .taken) w
+          (rw (← pair .pair-at .ensures)
+          (goes-on false (a .eps) (l .k) (pair .pair-at .result) v (cut .cut-off .ensures) w (m .came)
+          (λ x. (x .1 .given .1, x .2, x .3, x .4, x .5))
+          (λ x. (x .1 .given .0 .0, x .1 .given .1, x .3, x .4, x .5, x .6))
+          (λ x. (x .1 .given .0 .0, x .1 .given .1, x .3, x .4, x .5, x .6)))))
+          ∙ l .inv .1,
+    )
 
 between-requires-2 : tie.Need-between-requires-2 Inv-loop μ-loop
 between-requires-2 c κs = search needs
@@ -83,9 +106,15 @@ meeting-requires c κs = search needs
 returns-2 : tie.Need-returns-2 Inv-loop μ-loop
 unfolding noRows
 returns-2 c =
-    let a = c .before .before .before .before .before .before .args in
-    let l = c .before .before .before .loop in
-    rw (c .meeting .ensures, c .before .between2 .ensures, ← whole-line {act = noRows} (c .before .before .before .before .infinity .ensures) refl) (sym (pairs-end (a .autonan) (a .eps) (now (a .pairs)) (a .n) (l .k) (span (l .high) (l .low) (l .first) (l .second)) (c .before .before .before .before .before .before .pre) (c .before .before .loop-test .left)) ∙ l .inv .1)
+    let tested = c .before .before in
+    let ends = tested .before .before in
+    let start = ends .before .before in
+    let a = start .args in
+    let l = tested .before .loop in
+    rw (c .meeting .ensures, c .before .between2 .ensures, ← whole-line {act = noRows} (ends .infinity .ensures) refl)
+    (sym (pairs-end (a .autonan) (a .eps) (now (a .pairs)) (a .n) (l .k) (span (l .high) (l .low) (l .first) (l .second))
+    (start .pre) (tested .loop-test .left))
+    ∙ l .inv .1)
 
 pub span-of-spec : {M : Type 1} → statement M
 span-of-spec =

@@ -1,3 +1,4 @@
+-- `line::void` meets its contract.
 use Rattle.line.specs.Line.{void}
 use borrow.Author.Needs.{needs}
 use Rattle.line.proofs.void.Statement.{statement}

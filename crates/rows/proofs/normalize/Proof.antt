@@ -63,7 +63,9 @@ loop-again c =
     (join .if1 .came) in (
       omega arith,
       omega arith,
-      put .put-row .ensures .0 ∙ rw (scale .scaled .ensures, normal, read .row-at .ensures, l .inv .2, add-one (l .k)) (done-next normalizedRow (l .k) (rowsOf floats) inside),
+      put .put-row .ensures .0
+          ∙ rw (scale .scaled .ensures, normal, read .row-at .ensures, l .inv .2, add-one (l .k))
+          (done-next normalizedRow (l .k) (rowsOf floats) inside),
       ⊎-elim (λ w. cc) (λ w. cc) (join .if1 .came),
     )
 

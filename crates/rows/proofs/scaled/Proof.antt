@@ -24,7 +24,14 @@ returns c =
     let second = c .before .before in
     let first = second .before .before in
     let finite = first .before .before .before in
-    rw (finite .before .if1 .taken, ← finite .is-finite .ensures, first .before .before .if2 .taken, ← first .settled .ensures, ← second .settled2 .ensures, ← c .settled3 .ensures)
+    rw (
+      finite .before .if1 .taken,
+      ← finite .is-finite .ensures,
+      first .before .before .if2 .taken,
+      ← first .settled .ensures,
+      ← second .settled2 .ensures,
+      ← c .settled3 .ensures,
+    )
 
 returns-2 : tie.Need-returns-2
 unfolding normalizedBy zeros zero if_then_else_

@@ -21,7 +21,15 @@ max-requires c κs = search needs
 
 returns-2 : tie.Need-returns-2
 unfolding chosen if_then_else_ zero
-returns-2 c = simp (c .before .before .before .before .if1 .taken, ← c .before .before .before .set-second .ensures, ← c .before .before .is-finite .ensures, c .before .if2 .left, ← c .max .ensures)
+returns-2 c =
+    let tested = c .before .before in
+    simp (
+      tested .before .before .if1 .taken,
+      ← tested .before .set-second .ensures,
+      ← tested .is-finite .ensures,
+      c .before .if2 .left,
+      ← c .max .ensures,
+    )
 
 set-first-requires : tie.Need-set-first-requires
 set-first-requires c κs = search needs
@@ -31,14 +39,26 @@ is-finite-requires-2 c κs = search needs
 
 returns-3 : tie.Need-returns-3
 unfolding chosen if_then_else_ zero
-returns-3 c = simp (c .before .before .before .before .if1 .left, c .before .before .before .if3 .taken, ← c .before .before .set-first .ensures, ← c .before .is-finite2 .ensures, c .if4 .taken)
+returns-3 c =
+    let falls = c .before .before .before in
+    simp (falls .before .if1 .left, falls .if3 .taken, ← c .before .before .set-first .ensures, ← c .before .is-finite2 .ensures, c .if4 .taken)
 
 min-requires : tie.Need-min-requires
 min-requires c κs = search needs
 
 returns-4 : tie.Need-returns-4
 unfolding chosen if_then_else_ zero
-returns-4 c = simp (c .before .before .before .before .before .if1 .left, c .before .before .before .before .if3 .taken, ← c .before .before .before .set-first .ensures, ← c .before .before .is-finite2 .ensures, c .before .if4 .left, ← c .min .ensures)
+returns-4 c =
+    let tested = c .before .before in
+    let falls = tested .before .before in
+    simp (
+      falls .before .if1 .left,
+      falls .if3 .taken,
+      ← tested .before .set-first .ensures,
+      ← tested .is-finite2 .ensures,
+      c .before .if4 .left,
+      ← c .min .ensures,
+    )
 
 set-first-requires-2 : tie.Need-set-first-requires-2
 set-first-requires-2 c κs = search needs
@@ -52,7 +72,9 @@ set-second-requires-2 c κs = search needs
 
 returns-6 : tie.Need-returns-6
 unfolding chosen if_then_else_ zero
-returns-6 c = simp (c .before .before .before .before .if1 .left, c .before .before .before .if3 .left, c .before .before .if5 .left, c .before .if6 .taken, ← c .set-second2 .ensures)
+returns-6 c =
+    let level = c .before .before in
+    simp (level .before .before .if1 .left, level .before .if3 .left, level .if5 .left, c .before .if6 .taken, ← c .set-second2 .ensures)
 
 no-rows-requires : tie.Need-no-rows-requires
 no-rows-requires c κs = search needs
@@ -62,7 +84,16 @@ set-first-requires-3 c κs = search needs
 
 returns-7 : tie.Need-returns-7
 unfolding chosen if_then_else_ zero
-returns-7 c = simp (c .before .before .before .before .before .if1 .left, c .before .before .before .before .if3 .left, c .before .before .before .if5 .left, c .before .before .if6 .left, ← c .before .no-rows .ensures, ← c .set-first3 .ensures)
+returns-7 c =
+    let level = c .before .before .before in
+    simp (
+      level .before .before .if1 .left,
+      level .before .if3 .left,
+      level .if5 .left,
+      c .before .before .if6 .left,
+      ← c .before .no-rows .ensures,
+      ← c .set-first3 .ensures,
+    )
 
 pub choose-spec : {M : Type 1} → statement M
 choose-spec =

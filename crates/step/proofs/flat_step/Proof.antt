@@ -32,14 +32,22 @@ shown-requires c κs = search needs
 returns : tie.Need-returns
 unfolding stepped one
 returns c =
-    let a = c .before .before .before .before .before .before .before .before .args in
-    sym (ap stepped (flat-spent (a .f) (take (a .upto) (rowsOf (now (a .rows)))) (a .i) (a .r) (a .s) (a .left) refl refl (was-spent _ (sym (c .enum-told .given .1) ∙ c .before .before .lp-1d-core .ensures))))
+    let line = c .before .before in
+    let a = line .before .before .before .before .before .before .args in
+    sym (ap stepped
+    (flat-spent (a .f) (take (a .upto) (rowsOf (now (a .rows)))) (a .i) (a .r) (a .s) (a .left) refl refl
+    (was-spent _ (sym (c .enum-told .given .1) ∙ line .lp-1d-core .ensures))))
 
 returns-2 : tie.Need-returns-2
 unfolding one
 returns-2 c =
-    let a = c .before .before .before .before .before .before .before .before .before .before .before .before .args in
-    rw (c .shown .ensures, c .before .flat-end .ensures, c .before .before .uncrossed .ensures) (sym (ap stepped (flat-done (a .f) (take (a .upto) (rowsOf (now (a .rows)))) (a .i) (a .r) (a .s) (a .left) refl refl (was-reduced _ (sym (c .before .before .before .before .got .given .1) ∙ c .before .before .before .before .before .before .lp-1d-core .ensures)))))
+    let told = c .before .before .before .before in
+    let line = told .before .before in
+    let a = line .before .before .before .before .before .before .args in
+    rw (c .shown .ensures, c .before .flat-end .ensures, c .before .before .uncrossed .ensures)
+    (sym (ap stepped
+    (flat-done (a .f) (take (a .upto) (rowsOf (now (a .rows)))) (a .i) (a .r) (a .s) (a .left) refl refl
+    (was-reduced _ (sym (told .got .given .1) ∙ line .lp-1d-core .ensures)))))
 
 pub flat-step-spec : {M : Type 1} → statement M
 flat-step-spec =

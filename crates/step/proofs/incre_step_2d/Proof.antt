@@ -28,14 +28,24 @@ no-boundary-requires c κs = search needs
 returns-2 : tie.Need-returns-2
 unfolding stepped if_then_else_
 returns-2 c =
-    let a = c .before .before .before .before .before .before .before .before .args in
-    sym (ap stepped (step-free (rowsOf (now (a .rows))) (a .f) (a .upto) (a .row) (a .s) (a .left) (search needs) (rw (← c .before .before .before .before .before .row-at .ensures) (sym (c .before .before .before .before .no-boundary .ensures) ∙ c .before .before .before .if2 .taken)) {b = true} (rw (← c .before .before .before .before .before .row-at .ensures) (c .if3 .taken))))
+    let free = c .before .before .before in
+    let read = free .before .before in
+    let a = read .before .before .before .args in
+    sym (ap stepped
+    (step-free (rowsOf (now (a .rows))) (a .f) (a .upto) (a .row) (a .s) (a .left) (search needs)
+    (rw (← read .row-at .ensures) (sym (free .before .no-boundary .ensures) ∙ free .if2 .taken))
+    {b = true} (rw (← read .row-at .ensures) (c .if3 .taken))))
 
 returns-3 : tie.Need-returns-3
 unfolding stepped if_then_else_
 returns-3 c =
-    let a = c .before .before .before .before .before .before .before .before .args in
-    sym (ap stepped (step-free (rowsOf (now (a .rows))) (a .f) (a .upto) (a .row) (a .s) (a .left) (search needs) (rw (← c .before .before .before .before .before .row-at .ensures) (sym (c .before .before .before .before .no-boundary .ensures) ∙ c .before .before .before .if2 .taken)) {b = false} (rw (← c .before .before .before .before .before .row-at .ensures) (c .if3 .left))))
+    let free = c .before .before .before in
+    let read = free .before .before in
+    let a = read .before .before .before .args in
+    sym (ap stepped
+    (step-free (rowsOf (now (a .rows))) (a .f) (a .upto) (a .row) (a .s) (a .left) (search needs)
+    (rw (← read .row-at .ensures) (sym (free .before .no-boundary .ensures) ∙ free .if2 .taken))
+    {b = false} (rw (← read .row-at .ensures) (c .if3 .left))))
 
 abs-requires : tie.Need-abs-requires
 abs-requires c κs = search needs
@@ -48,16 +58,30 @@ steep-step-requires c κs = search needs
 
 returns-4 : tie.Need-returns-4
 returns-4 c =
-    let a = c .before .before .before .before .before .before .before .before .before .args in
-    rw (c .steep-step .ensures, c .before .before .before .before .before .before .row-at .ensures) (sym (ap stepped (step-steep (rowsOf (now (a .rows))) (a .f) (a .upto) (a .row) (a .s) (a .left) (search needs) (rw (← c .before .before .before .before .before .before .row-at .ensures) (sym (c .before .before .before .before .before .no-boundary .ensures) ∙ c .before .before .before .before .if2 .left)) (rw (← c .before .before .before .before .before .before .row-at .ensures, ← c .before .before .before .abs .ensures, ← c .before .before .abs2 .ensures) (c .before .if4 .taken)))))
+    let sizes = c .before .before in
+    let bounded = sizes .before .before in
+    let read = bounded .before .before in
+    let a = read .before .before .before .args in
+    rw (c .steep-step .ensures, read .row-at .ensures)
+    (sym (ap stepped
+    (step-steep (rowsOf (now (a .rows))) (a .f) (a .upto) (a .row) (a .s) (a .left) (search needs)
+    (rw (← read .row-at .ensures) (sym (bounded .before .no-boundary .ensures) ∙ bounded .if2 .left))
+    (rw (← read .row-at .ensures, ← sizes .before .abs .ensures, ← sizes .abs2 .ensures) (c .before .if4 .taken)))))
 
 flat-step-requires : tie.Need-flat-step-requires
 flat-step-requires c κs = search needs
 
 returns-5 : tie.Need-returns-5
 returns-5 c =
-    let a = c .before .before .before .before .before .before .before .before .before .args in
-    rw (c .flat-step .ensures, c .before .before .before .before .before .before .row-at .ensures) (sym (ap stepped (step-flat (rowsOf (now (a .rows))) (a .f) (a .upto) (a .row) (a .s) (a .left) (search needs) (rw (← c .before .before .before .before .before .before .row-at .ensures) (sym (c .before .before .before .before .before .no-boundary .ensures) ∙ c .before .before .before .before .if2 .left)) (rw (← c .before .before .before .before .before .before .row-at .ensures, ← c .before .before .before .abs .ensures, ← c .before .before .abs2 .ensures) (c .before .if4 .left)))))
+    let sizes = c .before .before in
+    let bounded = sizes .before .before in
+    let read = bounded .before .before in
+    let a = read .before .before .before .args in
+    rw (c .flat-step .ensures, read .row-at .ensures)
+    (sym (ap stepped
+    (step-flat (rowsOf (now (a .rows))) (a .f) (a .upto) (a .row) (a .s) (a .left) (search needs)
+    (rw (← read .row-at .ensures) (sym (bounded .before .no-boundary .ensures) ∙ bounded .if2 .left))
+    (rw (← read .row-at .ensures, ← sizes .before .abs .ensures, ← sizes .abs2 .ensures) (c .before .if4 .left)))))
 
 pub incre-step-2d-spec : {M : Type 1} → statement M
 incre-step-2d-spec =

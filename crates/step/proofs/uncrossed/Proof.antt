@@ -17,11 +17,15 @@ max-requires c κs = search needs
 
 returns : tie.Need-returns
 unfolding uncrossed if_then_else_ epsRounding half
-returns c = rw (c .before .before .before .before .if1 .taken, ← c .before .before .before .abs .ensures, ← c .before .before .abs2 .ensures, ← c .before .max .ensures, c .if2 .taken)
+returns c =
+    let size = c .before .before in
+    rw (size .before .before .if1 .taken, ← size .before .abs .ensures, ← size .abs2 .ensures, ← c .before .max .ensures, c .if2 .taken)
 
 returns-2 : tie.Need-returns-2
 unfolding uncrossed if_then_else_ epsRounding half
-returns-2 c = rw (c .before .before .before .before .if1 .taken, ← c .before .before .before .abs .ensures, ← c .before .before .abs2 .ensures, ← c .before .max .ensures, c .if2 .left)
+returns-2 c =
+    let size = c .before .before in
+    rw (size .before .before .if1 .taken, ← size .before .abs .ensures, ← size .abs2 .ensures, ← c .before .max .ensures, c .if2 .left)
 
 returns-3 : tie.Need-returns-3
 unfolding uncrossed if_then_else_ epsRounding half

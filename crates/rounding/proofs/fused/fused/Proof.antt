@@ -4,7 +4,8 @@ use mathlib.Core.Path.{refl, sym, subst, _∙_}
 use lib.Dec.{T}
 use lib.Ieee.{binary64, fits}
 use Rattle.rounding.proofs.RootCases.{real}
-use Rattle.rounding.proofs.FusedCases.{mag, sign, x-nan, y-nan, z-nan, at-inf, at-zero, mag-lt, mag-pos, x-inf, y-inf, z-inf, Finite, finite, x-zero, y-zero, z-zero, whole-fused}
+use Rattle.rounding.proofs.FusedCases.{mag, sign, x-nan, y-nan, z-nan, at-inf, at-zero, mag-lt, mag-pos, x-inf, y-inf, z-inf}
+use Rattle.rounding.proofs.FusedCases.{Finite, finite, x-zero, y-zero, z-zero, whole-fused}
 use Rattle.rounding.proofs.fused.fused.Statement.{statement}
 use Rattle.rounding.proofs.fused.fused.Tie as tie
 
@@ -111,7 +112,8 @@ returns-9 c =
     let e6 = e7 .before in
     let s = e6 .before .before .before .before .before .before in
     let a = s .args in
-    z-zero (a .x) (a .y) (a .z) (sign (a .z)) (fin-x (e6 .before .before)) (fin-y (e6 .before)) (e7 .if7 .left) (e8 .if8 .left) (at-zero (a .z) (Fz s) (c .if9 .taken))
+    z-zero (a .x) (a .y) (a .z) (sign (a .z)) (fin-x (e6 .before .before)) (fin-y (e6 .before)) (e7 .if7 .left) (e8 .if8 .left)
+    (at-zero (a .z) (Fz s) (c .if9 .taken))
 
 fused-parts-requires : tie.Need-fused-parts-requires
 fused-parts-requires c κs =
@@ -124,8 +126,14 @@ fused-parts-requires c κs =
     let e2 = e3 .before in
     let e1 = e2 .before in
     let s = e1 .before in
-    let a = s .args in
-    (mag-pos (mag (a .x)) (e7 .if7 .left), mag-lt (a .x) (Fx s) (e1 .if1 .left) (e4 .if4 .left), mag-pos (mag (a .y)) (e8 .if8 .left), mag-lt (a .y) (Fy s) (e2 .if2 .left) (e5 .if5 .left), mag-pos (mag (a .z)) (c .if9 .left), mag-lt (a .z) (Fz s) (e3 .if3 .left) (e6 .if6 .left))
+    let a = s .args in (
+      mag-pos (mag (a .x)) (e7 .if7 .left),
+      mag-lt (a .x) (Fx s) (e1 .if1 .left) (e4 .if4 .left),
+      mag-pos (mag (a .y)) (e8 .if8 .left),
+      mag-lt (a .y) (Fy s) (e2 .if2 .left) (e5 .if5 .left),
+      mag-pos (mag (a .z)) (c .if9 .left),
+      mag-lt (a .z) (Fz s) (e3 .if3 .left) (e6 .if6 .left),
+    )
 
 returns-10 : tie.Need-returns-10
 returns-10 c =
@@ -134,4 +142,7 @@ returns-10 c =
     whole-fused (a .x) (a .y) (a .z) (c .fused-parts .result) (Fx s) (Fy s) (Fz s) _ refl (c .fused-parts .ensures)
 
 pub fused-spec : {M : Type 1} → statement M
-fused-spec = tie.close (tie.spec nan-requires returns nan-requires-2 returns-2 nan-requires-3 returns-3 float-to-bits-bx float-to-bits-by float-to-bits-bz settled-requires returns-4 settled-requires-2 returns-5 returns-6 returns-7 returns-8 returns-9 fused-parts-requires returns-10)
+fused-spec =
+    tie.close
+    (tie.spec nan-requires returns nan-requires-2 returns-2 nan-requires-3 returns-3 float-to-bits-bx float-to-bits-by float-to-bits-bz
+    settled-requires returns-4 settled-requires-2 returns-5 returns-6 returns-7 returns-8 returns-9 fused-parts-requires returns-10)

@@ -35,8 +35,10 @@ sum-wide-requires c κs =
     let x = y .before in
     let tx = x .parts-of .ensures in
     let ty = y .parts-of2 .ensures in
-    let tz = z .parts-of3 .ensures in
-    ((multiplied tx ty (c .product .ensures), near (x .parts-of .result .e) (y .parts-of2 .result .e) (tx .far) (ty .far)), (raised tz, near (z .parts-of3 .result .e) 1072 (tz .far) (lit< tt)))
+    let tz = z .parts-of3 .ensures in (
+      (multiplied tx ty (c .product .ensures), near (x .parts-of .result .e) (y .parts-of2 .result .e) (tx .far) (ty .far)),
+      (raised tz, near (z .parts-of3 .result .e) 1072 (tz .far) (lit< tt)),
+    )
 
 returns : tie.Need-returns
 returns c =
@@ -45,7 +47,8 @@ returns c =
     let y = z .before in
     let x = y .before in
     let s = x .before in
-    fuses (x .parts-of .ensures) (y .parts-of2 .ensures) (z .parts-of3 .ensures) (p .product .ensures) (s .args .na) (s .args .nc) (c .sum-wide .result) (c .sum-wide .ensures)
+    fuses (x .parts-of .ensures) (y .parts-of2 .ensures) (z .parts-of3 .ensures) (p .product .ensures) (s .args .na) (s .args .nc)
+    (c .sum-wide .result) (c .sum-wide .ensures)
 
 pub fused-parts-spec : {M : Type 1} → statement M
 fused-parts-spec =

@@ -30,7 +30,9 @@ returns c =
     let a = c .before in
     let t = a .before in
     let s = t .before in
-    c .finish .ensures ∙ aligned-like (s .args .na) (s .args .nc) (P s) (Q s) (a .plus .result .hi * 2 ^ 64 + a .plus .result .lo) (s .args .e) (t .if1 .taken) (a .plus .ensures)
+    c .finish .ensures
+    ∙ aligned-like (s .args .na) (s .args .nc) (P s) (Q s) (a .plus .result .hi * 2 ^ 64 + a .plus .result .lo) (s .args .e)
+    (t .if1 .taken) (a .plus .ensures)
 
 less-requires : tie.Need-less-requires
 less-requires c κs = search needs
@@ -51,7 +53,9 @@ returns-2 c =
     let l = t .before in
     let e = l .before in
     let s = e .before in
-    c .finish2 .ensures ∙ aligned-less (s .args .na) (s .args .nc) (P s) (Q s) (m .minus .result .hi * 2 ^ 64 + m .minus .result .lo) (s .args .e) (e .if1 .left) (l .less .ensures .0 (t .if2 .taken)) (m .minus .ensures)
+    c .finish2 .ensures
+    ∙ aligned-less (s .args .na) (s .args .nc) (P s) (Q s) (m .minus .result .hi * 2 ^ 64 + m .minus .result .lo) (s .args .e)
+    (e .if1 .left) (l .less .ensures .0 (t .if2 .taken)) (m .minus .ensures)
 
 less-requires-2 : tie.Need-less-requires-2
 less-requires-2 c κs = search needs
@@ -72,7 +76,9 @@ returns-3 c =
     let l = t .before in
     let e = l .before .before .before in
     let s = e .before in
-    c .finish3 .ensures ∙ aligned-more (s .args .na) (s .args .nc) (P s) (Q s) (m .minus2 .result .hi * 2 ^ 64 + m .minus2 .result .lo) (s .args .e) (e .if1 .left) (l .less2 .ensures .0 (t .if3 .taken)) (m .minus2 .ensures)
+    c .finish3 .ensures
+    ∙ aligned-more (s .args .na) (s .args .nc) (P s) (Q s) (m .minus2 .result .hi * 2 ^ 64 + m .minus2 .result .lo) (s .args .e)
+    (e .if1 .left) (l .less2 .ensures .0 (t .if3 .taken)) (m .minus2 .ensures)
 
 returns-4 : tie.Need-returns-4
 returns-4 c =
@@ -81,7 +87,8 @@ returns-4 c =
     let l = e2 .before in
     let e = l .before in
     let s = e .before in
-    aligned-same (s .args .na) (s .args .nc) (P s) (Q s) (s .args .e) (e .if1 .left) (l .less .ensures .1 (e2 .if2 .left)) (l2 .less2 .ensures .1 (c .if3 .left))
+    aligned-same (s .args .na) (s .args .nc) (P s) (Q s) (s .args .e) (e .if1 .left) (l .less .ensures .1 (e2 .if2 .left))
+    (l2 .less2 .ensures .1 (c .if3 .left))
 
 pub sum-aligned-spec : {M : Type 1} → statement M
 sum-aligned-spec =

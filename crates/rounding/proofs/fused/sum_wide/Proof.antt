@@ -24,8 +24,11 @@ sum-aligned-requires c κs =
     let s = c .before .before in
     let r = s .args in
     let J = c .shift-jam-wide .result .hi * 2 ^ 64 + c .shift-jam-wide .result .lo in
-    let st = c .shift-jam-wide .ensures in
-    (left-pos (r .na) (r .nc) (A s) (C s) J (r .ea) (r .ec) (s .pre .0 .0) (s .pre .1 .0) st, left-fits (r .na) (r .nc) (A s) (C s) J (r .ea) (r .ec) (s .pre .0 .0) (s .pre .1 .0) st, s .pre .1 .1)
+    let st = c .shift-jam-wide .ensures in (
+      left-pos (r .na) (r .nc) (A s) (C s) J (r .ea) (r .ec) (s .pre .0 .0) (s .pre .1 .0) st,
+      left-fits (r .na) (r .nc) (A s) (C s) J (r .ea) (r .ec) (s .pre .0 .0) (s .pre .1 .0) st,
+      s .pre .1 .1,
+    )
 
 shift-jam-wide-requires-2 : tie.Need-shift-jam-wide-requires-2
 shift-jam-wide-requires-2 c κs = search needs
@@ -35,8 +38,11 @@ sum-aligned-requires-2 c κs =
     let s = c .before .before in
     let r = s .args in
     let J = c .shift-jam-wide2 .result .hi * 2 ^ 64 + c .shift-jam-wide2 .result .lo in
-    let st = c .shift-jam-wide2 .ensures in
-    (right-pos (r .na) (r .nc) (A s) (C s) J (r .ea) (r .ec) (s .pre .0 .0) (s .pre .1 .0), right-fits (r .na) (r .nc) (A s) (C s) J (r .ea) (r .ec) (s .pre .0 .0) (s .pre .1 .0) st, s .pre .0 .1)
+    let st = c .shift-jam-wide2 .ensures in (
+      right-pos (r .na) (r .nc) (A s) (C s) J (r .ea) (r .ec) (s .pre .0 .0) (s .pre .1 .0),
+      right-fits (r .na) (r .nc) (A s) (C s) J (r .ea) (r .ec) (s .pre .0 .0) (s .pre .1 .0) st,
+      s .pre .0 .1,
+    )
 
 returns : tie.Need-returns
 returns c =
@@ -45,7 +51,9 @@ returns c =
     let s = t .before in
     let r = s .args in
     let J = j .shift-jam-wide .result .hi * 2 ^ 64 + j .shift-jam-wide .result .lo in
-    c .sum-aligned .ensures ∙ left (r .na) (r .nc) (A s) (C s) J (r .ea) (r .ec) (s .pre .0 .0) (s .pre .1 .0) (le-of-lt (t .if1 .taken)) (j .shift-jam-wide .ensures)
+    c .sum-aligned .ensures
+    ∙ left (r .na) (r .nc) (A s) (C s) J (r .ea) (r .ec) (s .pre .0 .0) (s .pre .1 .0) (le-of-lt (t .if1 .taken))
+    (j .shift-jam-wide .ensures)
 
 returns-2 : tie.Need-returns-2
 returns-2 c =

@@ -38,13 +38,15 @@ returns : tie.Need-returns
 returns c =
     let m = c .before in
     let s = m .before in
-    negative (s .args .k) (s .args .q) (m .magnitude .result) (m .magnitude .ensures) ∙ ap (λ (t : Bool). units binary64 t (s .args .q) (s .args .k)) (sym (c .if1 .taken))
+    negative (s .args .k) (s .args .q) (m .magnitude .result) (m .magnitude .ensures)
+    ∙ ap (λ (t : Bool). units binary64 t (s .args .q) (s .args .k)) (sym (c .if1 .taken))
 
 returns-2 : tie.Need-returns-2
 returns-2 c =
     let m = c .before in
     let s = m .before in
-    positive (s .args .k) (s .args .q) (m .magnitude .result) (m .magnitude .ensures) ∙ ap (λ (t : Bool). units binary64 t (s .args .q) (s .args .k)) (sym (c .if1 .left))
+    positive (s .args .k) (s .args .q) (m .magnitude .result) (m .magnitude .ensures)
+    ∙ ap (λ (t : Bool). units binary64 t (s .args .q) (s .args .k)) (sym (c .if1 .left))
 
 pub pack-spec : {M : Type 1} → statement M
 pack-spec = tie.close (tie.spec magnitude-requires add-result float-from-bits-result float-from-bits-result-2 returns returns-2)

@@ -18,15 +18,18 @@ drop-eleven-requires : tie.Need-drop-eleven-requires
 drop-eleven-requires c κs = search needs
 
 pack-requires : tie.Need-pack-requires
-pack-requires c κs = (subst (λ (x : ℕ). x ≤ 2 ^ 53) (sym (c .drop-eleven .ensures)) (kept-most (c .before .shift-jam .result) (c .before .shift-jam .ok)), inl refl)
+pack-requires c κs =
+    (subst (λ (x : ℕ). x ≤ 2 ^ 53) (sym (c .drop-eleven .ensures)) (kept-most (c .before .shift-jam .result) (c .before .shift-jam .ok)), inl refl)
 
 drop-eleven-requires-2 : tie.Need-drop-eleven-requires-2
 drop-eleven-requires-2 c κs = search needs
 
 pack-requires-2 : tie.Need-pack-requires-2
 pack-requires-2 c κs =
-    let s = c .before .before in
-    (subst (λ (x : ℕ). x ≤ 2 ^ 53) (sym (c .drop-eleven2 .ensures)) (kept-most (s .args .sig) (s .fits .sig .fits)), inr (subst (λ (x : ℕ). 2 ^ 52 ≤ x) (sym (c .drop-eleven2 .ensures)) (kept-least (s .args .sig) (s .pre))))
+    let s = c .before .before in (
+      subst (λ (x : ℕ). x ≤ 2 ^ 53) (sym (c .drop-eleven2 .ensures)) (kept-most (s .args .sig) (s .fits .sig .fits)),
+      inr (subst (λ (x : ℕ). 2 ^ 52 ≤ x) (sym (c .drop-eleven2 .ensures)) (kept-least (s .args .sig) (s .pre))),
+    )
 
 returns : tie.Need-returns
 returns c =
@@ -48,4 +51,5 @@ returns-2 c =
     ∙ round-high (s .args .neg) (s .args .sig) (s .args .e) (s .pre) (s .fits .sig .fits) (t .if1 .left)
 
 pub round-pack-spec : {M : Type 1} → statement M
-round-pack-spec = tie.close (tie.spec sub-shift-jam shift-jam-requires drop-eleven-requires pack-requires drop-eleven-requires-2 pack-requires-2 returns returns-2)
+round-pack-spec =
+    tie.close (tie.spec sub-shift-jam shift-jam-requires drop-eleven-requires pack-requires drop-eleven-requires-2 pack-requires-2 returns returns-2)

@@ -34,13 +34,15 @@ wrapping-sub-u64-requires-2 c κs = search needs
 
 add-vp : tie.Need-add-vp Inv-loop μ-loop
 add-vp c =
-    let l = c .before .before .before .before .before .loop in
-    record { fits = up-fits (c .before .before .before .before .before .before .args .v) (l .jx) (l .u) (l .h) (l .g) (l .i) (l .inv .1) (c .before .before .before .before .loop-test .taken) }
+    let tested = c .before .before .before .before in
+    let l = tested .before .loop in
+    record { fits = up-fits (tested .before .before .args .v) (l .jx) (l .u) (l .h) (l .g) (l .i) (l .inv .1) (tested .loop-test .taken) }
 
 sub-en : tie.Need-sub-en Inv-loop μ-loop
 sub-en c =
-    let l = c .before .before .before .before .before .loop in
-    down-fits (c .before .before .before .before .before .before .args .v) (l .jx) (l .u) (l .h) (l .g) (l .i) (l .inv .1) (c .before .before .before .before .loop-test .taken)
+    let tested = c .before .before .before .before in
+    let l = tested .before .loop in
+    down-fits (tested .before .before .args .v) (l .jx) (l .u) (l .h) (l .g) (l .i) (l .inv .1) (tested .loop-test .taken)
 
 add-i : tie.Need-add-i Inv-loop μ-loop
 add-i c = search needs
@@ -61,10 +63,12 @@ loop-again c =
     let l = at .loop in
     let w = at .before .args .w in
     let v = at .before .args .v in (
-      again w (l .ix) (l .t) (l .h) (l .g) (l .i) (d1 .if1 .t) (d2 .if2 .ix) (s1 .wrapping-sub-u64 .result) (opened w (l .ix) (l .t) (l .h) (l .g) (l .i) (l .inv .0) k) (s1 .wrapping-sub-u64 .ok) (s1 .wrapping-sub-u64 .ensures)
+      again w (l .ix) (l .t) (l .h) (l .g) (l .i) (d1 .if1 .t) (d2 .if2 .ix) (s1 .wrapping-sub-u64 .result)
+          (opened w (l .ix) (l .t) (l .h) (l .g) (l .i) (l .inv .0) k) (s1 .wrapping-sub-u64 .ok) (s1 .wrapping-sub-u64 .ensures)
           (⊎-elim (λ z. inl (z .0 .taken, z .1)) (λ z. inr (z .0 .left, z .1)) (d1 .if1 .came))
           (⊎-elim (λ z. inl (z .0 .taken, z .1)) (λ z. inr (z .0 .left, z .1)) (d2 .if2 .came)),
-      again v (l .jx) (l .u) (l .h) (l .g) (l .i) (d3 .if3 .u) (d4 .if4 .jx) (s2 .wrapping-sub-u642 .result) (opened v (l .jx) (l .u) (l .h) (l .g) (l .i) (l .inv .1) k) (s2 .wrapping-sub-u642 .ok) (s2 .wrapping-sub-u642 .ensures)
+      again v (l .jx) (l .u) (l .h) (l .g) (l .i) (d3 .if3 .u) (d4 .if4 .jx) (s2 .wrapping-sub-u642 .result)
+          (opened v (l .jx) (l .u) (l .h) (l .g) (l .i) (l .inv .1) k) (s2 .wrapping-sub-u642 .ok) (s2 .wrapping-sub-u642 .ensures)
           (⊎-elim (λ z. inl (z .0 .taken, z .1)) (λ z. inr (z .0 .left, z .1)) (d3 .if3 .came))
           (⊎-elim (λ z. inl (z .0 .taken, z .1)) (λ z. inr (z .0 .left, z .1)) (d4 .if4 .came)),
     )
@@ -77,7 +81,7 @@ add-a c =
 sub-a : tie.Need-sub-a Inv-loop μ-loop
 sub-a c =
     let l = c .before .before .loop in
-    end-down (c .before .before .before .args .w) (l .ix) (l .t) (l .h) (l .g) (l .i) (l .inv .0) (c .before .loop-test .left)
+    end-down (c .before .before .before .args .w) (l .ix) (l .t) (l .h) (l .g) (l .i) (l .inv .0)
 
 add-b : tie.Need-add-b Inv-loop μ-loop
 add-b c =
@@ -87,19 +91,25 @@ add-b c =
 sub-b : tie.Need-sub-b Inv-loop μ-loop
 sub-b c =
     let l = c .before .before .before .loop in
-    end-down (c .before .before .before .before .args .v) (l .jx) (l .u) (l .h) (l .g) (l .i) (l .inv .1) (c .before .before .loop-test .left)
+    end-down (c .before .before .before .before .args .v) (l .jx) (l .u) (l .h) (l .g) (l .i) (l .inv .1)
 
 returns : tie.Need-returns Inv-loop μ-loop
 returns c =
     let l = c .before .before .before .loop in
-    let k = c .before .before .loop-test .left in
-    (out (c .before .before .before .before .args .w) (l .ix) (l .t) (l .h) (l .g) (l .i) (l .inv .0) (c .before .if5 .a) k (⊎-elim (λ z. inl (z .0 .taken, z .1)) (λ z. inr (z .0 .left, z .1)) (c .before .if5 .came)), out-yes (c .before .before .before .before .args .v) (l .jx) (l .u) (l .h) (l .g) (l .i) (l .inv .1) k (c .if6 .taken))
+    let k = c .before .before .loop-test .left in (
+      out (c .before .before .before .before .args .w) (l .ix) (l .t) (l .h) (l .g) (l .i) (l .inv .0) (c .before .if5 .a) k
+          (⊎-elim (λ z. inl (z .0 .taken, z .1)) (λ z. inr (z .0 .left, z .1)) (c .before .if5 .came)),
+      out-yes (c .before .before .before .before .args .v) (l .jx) (l .u) (l .h) (l .g) (l .i) (l .inv .1) k (c .if6 .taken),
+    )
 
 returns-2 : tie.Need-returns-2 Inv-loop μ-loop
 returns-2 c =
     let l = c .before .before .before .loop in
-    let k = c .before .before .loop-test .left in
-    (out (c .before .before .before .before .args .w) (l .ix) (l .t) (l .h) (l .g) (l .i) (l .inv .0) (c .before .if5 .a) k (⊎-elim (λ z. inl (z .0 .taken, z .1)) (λ z. inr (z .0 .left, z .1)) (c .before .if5 .came)), out-no (c .before .before .before .before .args .v) (l .jx) (l .u) (l .h) (l .g) (l .i) (l .inv .1) k (c .if6 .left))
+    let k = c .before .before .loop-test .left in (
+      out (c .before .before .before .before .args .w) (l .ix) (l .t) (l .h) (l .g) (l .i) (l .inv .0) (c .before .if5 .a) k
+          (⊎-elim (λ z. inl (z .0 .taken, z .1)) (λ z. inr (z .0 .left, z .1)) (c .before .if5 .came)),
+      out-no (c .before .before .before .before .args .v) (l .jx) (l .u) (l .h) (l .g) (l .i) (l .inv .1) k (c .if6 .left),
+    )
 
 pub pair-digits-spec : {M : Type 1} → statement M
 pair-digits-spec =

@@ -52,7 +52,10 @@ float-from-bits-y : tie.Need-float-from-bits-y
 float-from-bits-y c = program-real (c .before .parts-of2 .ensures) (c .pair-digits .result .b) (c .pair-digits .ensures .1)
 
 returns : tie.Need-returns
-returns c = (program-root (c .before .before .parts-of .ensures) (c .pair-digits .result .a) (c .pair-digits .ensures .0), program-root (c .before .parts-of2 .ensures) (c .pair-digits .result .b) (c .pair-digits .ensures .1))
+returns c = (
+  program-root (c .before .before .parts-of .ensures) (c .pair-digits .result .a) (c .pair-digits .ensures .0),
+  program-root (c .before .parts-of2 .ensures) (c .pair-digits .result .b) (c .pair-digits .ensures .1),
+)
 
 pub positive-pair-spec : {M : Type 1} → statement M
 positive-pair-spec =

@@ -35,8 +35,10 @@ positive-pair-requires c κs =
 
 returns : tie.Need-returns
 returns c =
-    let s = c .before .before .before .before .before in
-    (c .positive-pair .ensures .0 ∙ ap root (ofBits-toBits binary64 (s .args .x) (held-x s)), c .positive-pair .ensures .1 ∙ ap root (ofBits-toBits binary64 (s .args .y) (held-y s)))
+    let s = c .before .before .before .before .before in (
+      c .positive-pair .ensures .0 ∙ ap root (ofBits-toBits binary64 (s .args .x) (held-x s)),
+      c .positive-pair .ensures .1 ∙ ap root (ofBits-toBits binary64 (s .args .y) (held-y s)),
+    )
 
 root-requires : tie.Need-root-requires
 root-requires c κs = search needs

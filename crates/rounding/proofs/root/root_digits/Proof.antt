@@ -22,12 +22,12 @@ wrapping-sub-u64-requires c κs = search needs
 add-up : tie.Need-add-up Inv-loop μ-loop
 add-up c =
     let l = c .before .before .loop in
-    record { fits = up-fits (c .before .before .before .args .w) (l .ix) (l .t) (l .h) (l .g) (l .i) (l .inv) (c .before .loop-test .taken) }
+    record { fits = up-fits (c .before .before .before .args .w) (l .ix) (l .t) (l .h) (l .g) (l .i) (l .inv) (omega arith) }
 
 sub-dn : tie.Need-sub-dn Inv-loop μ-loop
 sub-dn c =
     let l = c .before .before .loop in
-    down-fits (c .before .before .before .args .w) (l .ix) (l .t) (l .h) (l .g) (l .i) (l .inv) (c .before .loop-test .taken)
+    down-fits (c .before .before .before .args .w) (l .ix) (l .t) (l .h) (l .g) (l .i) (l .inv) (omega arith)
 
 add-i : tie.Need-add-i Inv-loop μ-loop
 add-i c = search needs
@@ -42,7 +42,8 @@ loop-again c =
     let u = b .before in
     let at = u .before .before in
     let l = at .loop in
-    again (at .before .args .w) (l .ix) (l .t) (l .h) (l .g) (l .i) (b .if1 .t) (a .if2 .ix) (u .wrapping-sub-u64 .result) (opened (at .before .args .w) (l .ix) (l .t) (l .h) (l .g) (l .i) (l .inv) (u .before .loop-test .taken))
+    again (at .before .args .w) (l .ix) (l .t) (l .h) (l .g) (l .i) (b .if1 .t) (a .if2 .ix) (u .wrapping-sub-u64 .result)
+    (opened (at .before .args .w) (l .ix) (l .t) (l .h) (l .g) (l .i) (l .inv) (omega arith))
     (u .wrapping-sub-u64 .ok) (u .wrapping-sub-u64 .ensures)
     (⊎-elim (λ z. inl (z .0 .taken, z .1)) (λ z. inr (z .0 .left, z .1)) (b .if1 .came))
     (⊎-elim (λ z. inl (z .0 .taken, z .1)) (λ z. inr (z .0 .left, z .1)) (a .if2 .came))
@@ -55,7 +56,7 @@ add-result c =
 sub-result : tie.Need-sub-result Inv-loop μ-loop
 sub-result c =
     let l = c .before .before .loop in
-    end-down (c .before .before .before .args .w) (l .ix) (l .t) (l .h) (l .g) (l .i) (l .inv) (c .before .loop-test .left)
+    end-down (c .before .before .before .args .w) (l .ix) (l .t) (l .h) (l .g) (l .i) (l .inv)
 
 returns : tie.Need-returns Inv-loop μ-loop
 returns c =

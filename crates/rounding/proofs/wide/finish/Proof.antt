@@ -29,7 +29,8 @@ shl-round-pack c =
 round-pack-requires : tie.Need-round-pack-requires
 round-pack-requires c κs =
     let s = c .before in
-    low-big (s .args .neg) (s .args .e) (s .args .hi) (s .args .lo) (s .fits .lo .fits) (c .if1 .taken) (low-pos (s .args .hi) (s .args .lo) (s .pre .0) (c .if1 .taken))
+    low-big (s .args .neg) (s .args .e) (s .args .hi) (s .args .lo) (s .fits .lo .fits) (c .if1 .taken)
+    (low-pos (s .args .hi) (s .args .lo) (s .pre .0) (c .if1 .taken))
 
 cast-z-2 : tie.Need-cast-z-2
 cast-z-2 c = omega (arith, leading-le 64 (c .before .args .hi))
@@ -50,20 +51,25 @@ round-pack-requires-2 : tie.Need-round-pack-requires-2
 round-pack-requires-2 c κs =
     let e = c .before in
     let s = e .before in
-    high-big (s .args .neg) (s .args .e) (s .args .hi) (s .args .lo) (s .fits .lo .fits) (e .if1 .left) (s .fits .hi .fits) (c .shift-jam-wide .result .hi) (c .shift-jam-wide .result .lo) (c .shift-jam-wide .ensures)
+    high-big (s .args .neg) (s .args .e) (s .args .hi) (s .args .lo) (s .fits .lo .fits) (e .if1 .left) (s .fits .hi .fits)
+    (c .shift-jam-wide .result .hi) (c .shift-jam-wide .result .lo) (c .shift-jam-wide .ensures)
 
 returns : tie.Need-returns
 returns c =
     let t = c .before in
     let s = t .before in
-    c .round-pack .ensures ∙ low-round (s .args .neg) (s .args .e) (s .args .hi) (s .args .lo) (s .fits .lo .fits) (t .if1 .taken) (low-pos (s .args .hi) (s .args .lo) (s .pre .0) (t .if1 .taken))
+    c .round-pack .ensures
+    ∙ low-round (s .args .neg) (s .args .e) (s .args .hi) (s .args .lo) (s .fits .lo .fits) (t .if1 .taken)
+    (low-pos (s .args .hi) (s .args .lo) (s .pre .0) (t .if1 .taken))
 
 returns-2 : tie.Need-returns-2
 returns-2 c =
     let j = c .before in
     let e = j .before in
     let s = e .before in
-    c .round-pack2 .ensures ∙ high-round (s .args .neg) (s .args .e) (s .args .hi) (s .args .lo) (s .fits .lo .fits) (e .if1 .left) (s .fits .hi .fits) (j .shift-jam-wide .result .hi) (j .shift-jam-wide .result .lo) (j .shift-jam-wide .ensures)
+    c .round-pack2 .ensures
+    ∙ high-round (s .args .neg) (s .args .e) (s .args .hi) (s .args .lo) (s .fits .lo .fits) (e .if1 .left) (s .fits .hi .fits)
+    (j .shift-jam-wide .result .hi) (j .shift-jam-wide .result .lo) (j .shift-jam-wide .ensures)
 
 pub finish-spec : {M : Type 1} → statement M
 finish-spec =

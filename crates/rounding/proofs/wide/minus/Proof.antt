@@ -63,7 +63,8 @@ returns c =
     let l = u .before in
     let s = l .before in
     borrowed (s .args .ah) (s .args .al) (s .args .bh) (s .args .bl) (l .wrapping-sub-u64 .result) (u .wrapping-sub-u642 .result) (c .wrapping-sub-u643 .result)
-    (s .fits .al .fits) (s .fits .bl .fits) (s .fits .ah .fits) (s .fits .bh .fits) (l .wrapping-sub-u64 .ok) (u .wrapping-sub-u642 .ok) (c .wrapping-sub-u643 .ok)
+    (s .fits .al .fits) (s .fits .bl .fits) (s .fits .ah .fits) (s .fits .bh .fits) (l .wrapping-sub-u64 .ok) (u .wrapping-sub-u642 .ok)
+    (c .wrapping-sub-u643 .ok)
     (s .pre) (l .wrapping-sub-u64 .ensures) (u .wrapping-sub-u642 .ensures) (c .wrapping-sub-u643 .ensures) (t .if1 .taken)
 
 returns-2 : tie.Need-returns-2

@@ -28,7 +28,12 @@ add-t8 c =
 add-t9 : tie.Need-add-t9
 add-t9 c =
     let s = c .before .before in
-    omega (arith, sum-lt (2 ^ 64) (s .args .ah) (s .args .al) (s .args .bh) (s .args .bl) (carried (s .args .al) (s .args .bl) (c .before .wrapping-add-u64 .result) (c .before .wrapping-add-u64 .ensures) (c .if1 .taken)) (s .pre) 1 refl)
+    omega (
+      arith,
+      sum-lt (2 ^ 64) (s .args .ah) (s .args .al) (s .args .bh) (s .args .bl)
+          (carried (s .args .al) (s .args .bl) (c .before .wrapping-add-u64 .result) (c .before .wrapping-add-u64 .ensures) (c .if1 .taken))
+          (s .pre) 1 refl,
+    )
 
 add-t10 : tie.Need-add-t10
 add-t10 c =

@@ -15,14 +15,17 @@ use Rattle.rounding.proofs.wide.shift_jam_wide.Tie as tie
 none : (W d : ℕ) → d ≡ 0 → Sticky W (2 ^ d) W
 none W d e = inl (sym (ap (λ (x : ℕ). W * 2 ^ x) e ∙ mul-one W))
 
-some : (hi lo d r : ℕ) → lo < 2 ^ 64 → d < 64 → r ≡ jammed (bitOr (hi * 2 ^ (64 - d) % 2 ^ 64) (lo / 2 ^ d)) (lo * 2 ^ (64 - d) % 2 ^ 64) → Sticky (hi * 2 ^ 64 + lo) (2 ^ d) (hi / 2 ^ d * 2 ^ 64 + r)
+some : (hi lo d r : ℕ) → lo < 2 ^ 64 → d < 64
+    → r ≡ jammed (bitOr (hi * 2 ^ (64 - d) % 2 ^ 64) (lo / 2 ^ d)) (lo * 2 ^ (64 - d) % 2 ^ 64)
+    → Sticky (hi * 2 ^ 64 + lo) (2 ^ d) (hi / 2 ^ d * 2 ^ 64 + r)
 some hi lo d r h k e = subst (λ (x : ℕ). Sticky (hi * 2 ^ 64 + lo) (2 ^ d) (hi / 2 ^ d * 2 ^ 64 + x)) (sym e) (sticky-shift hi lo d h k)
 
 many : (hi lo d j r : ℕ) → lo < 2 ^ 64 → 64 ≤ d → j ≡ jammed hi lo → Sticky j (2 ^ (d - 64)) r → Sticky (hi * 2 ^ 64 + lo) (2 ^ d) (0 + r)
 many hi lo d j r h k e t =
     subst (λ (x : ℕ). Sticky (hi * 2 ^ 64 + lo) (2 ^ d) x) (sym (zero-add r))
     (subst (λ (x : ℕ). Sticky (hi * 2 ^ 64 + lo) x r) (sym (pow-add 2 64 (d - 64)) ∙ ap (λ (x : ℕ). 2 ^ x) (go d k))
-    (sticky-trans (hi * 2 ^ 64 + lo) (2 ^ 64) (d - 64) j r (pow-pos 64) (subst (λ (x : ℕ). Sticky (hi * 2 ^ 64 + lo) (2 ^ 64) x) (sym e) (sticky-word hi lo h)) t))
+    (sticky-trans (hi * 2 ^ 64 + lo) (2 ^ 64) (d - 64) j r (pow-pos 64)
+    (subst (λ (x : ℕ). Sticky (hi * 2 ^ 64 + lo) (2 ^ 64) x) (sym e) (sticky-word hi lo h)) t))
   where
     go : (d : ℕ) → 64 ≤ d → 64 + (d - 64) ≡ d
     go d h = omega arith
@@ -66,7 +69,8 @@ returns-3 : tie.Need-returns-3
 returns-3 c =
     let j = c .before in
     let s = j .before .before .before in
-    many (s .args .hi) (s .args .lo) (s .args .d) (j .jam2 .result) (c .shift-jam .result) (s .fits .lo .fits) (j .before .if2 .left) (j .jam2 .ensures) (c .shift-jam .ensures)
+    many (s .args .hi) (s .args .lo) (s .args .d) (j .jam2 .result) (c .shift-jam .result) (s .fits .lo .fits) (j .before .if2 .left)
+    (j .jam2 .ensures) (c .shift-jam .ensures)
 
 pub shift-jam-wide-spec : {M : Type 1} → statement M
 shift-jam-wide-spec =
