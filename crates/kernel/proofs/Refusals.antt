@@ -1,23 +1,22 @@
 -- Which refusal a solve's input gets before a row is read, and what the solves come to with it and without. Assumes nothing.
-use mathlib.Core.Path.{_≡_, refl, sym, ap, _∙_}
+use mathlib.Core.Path.{_≡_, refl, sym}
 use mathlib.Core.Bool.{Bool, true, false, not}
 use mathlib.Core.Logic.{_≢_}
 use mathlib.Core.List.{List}
 use Prim.Native.Nat.{ℕ, _*_, _/_, _%_, _≤_, _<_}
 use native.Mathlib.Omega.{arith}
-use borrow.Author.Tests.{eq-eqb, le-ltb, eqb-true, eqb-false}
+use borrow.Author.Tests.{eq-eqb, lt-ltb, le-ltb, eqb-true, eqb-false}
 use lib.Dec.{eqb}
 use lib.ListN.{length}
 use lib.Ieee.{Float}
 use Rattle.float.specs.Operators.{if_then_else_}
 use Rattle.rows.specs.Constants.{mostRows}
 use Rattle.rows.specs.declared.Row.{Row}
-use Rattle.rows.specs.Rows.{rowsOf, flatOf, refusal}
+use Rattle.rows.specs.Rows.{flatOf, refusal}
 use Rattle.rows.proofs.Lengths.{length-flatOf}
 use Rattle.solve.specs.declared.Outcome.the-variants.{Refused}
 use Rattle.solve.specs.Solve as Solve
 use Rattle.solve.specs.Solve.{Ended, solve, lp2dIncreMaxY}
-use Rattle.solve.proofs.Allowance.{refusal-2}
 use Rattle.solve.proofs.Demands as of-floats
 use Rattle.lent.specs.Lent.{solveRows}
 use Rattle.lent.proofs.Demands.{rows-of-floats}
@@ -47,8 +46,8 @@ module _ (number mode : ℕ) where
 
 -- of n rows that are records
 pub many-rows : (n mode : ℕ) → mostRows < n → orTen (refusal 3 (3 * n)) mode ≡ 2
-unfolding orTen if_then_else_
-many-rows n mode h = rw (refusal-2 (3 * n) .1 (omega arith, omega arith))
+unfolding orTen refusal if_then_else_
+many-rows n mode h = rw (eq-eqb ((3 * n) % 3) 0 (omega arith), lt-ltb mostRows ((3 * n) / 3) (omega arith))
 
 pub few-rows : (n mode : ℕ) → n ≤ mostRows → orTen (refusal 3 (3 * n)) mode ≡ orTen 0 mode
 unfolding refusal if_then_else_
@@ -73,28 +72,31 @@ module _ (t : SolveTask) (flat : List Float) where
   source-refuses = with-no-mode (lp2dIncreMaxY (task t) flat)
 
   -- where the solve refuses by itself it makes no difference to ask before
-  with-a-mode : (e : Ended (List Float)) → (refusal 3 (length flat) ≢ 0 → e ≡ record { outcome = Refused (refusal 3 (length flat)); rows = flat })
+  abbrev own-refusal : ℕ
+  own-refusal = Solve.refusalOf (task t) flat
+
+  with-a-mode : (e : Ended (List Float)) → (own-refusal ≢ 0 → e ≡ record { outcome = Refused own-refusal; rows = flat })
       → noMode (t .normalize) ≡ false → unlessRefused t flat e ≡ e
-  unfolding unlessRefused refusalOf Solve.refusalOf if_then_else_
-  with-a-mode e refuses h = rw (same-refusal (refusal 3 (length flat)) (t .normalize) h) (by-test (eqb (refusal 3 (length flat)) 0) refl)
+  unfolding unlessRefused refusalOf if_then_else_
+  with-a-mode e refuses h = rw (same-refusal own-refusal (t .normalize) h) (by-test (eqb own-refusal 0) refl)
     where
-      by-test : (b : Bool) → eqb (refusal 3 (length flat)) 0 ≡ b
-          → _≡_ {A = Ended (List Float)} (if b then e else record { outcome = Refused (refusal 3 (length flat)); rows = flat }) e
+      by-test : (b : Bool) → eqb own-refusal 0 ≡ b → _≡_ {A = Ended (List Float)} (if b then e else record { outcome = Refused own-refusal; rows = flat }) e
       by-test true p = refl
-      by-test false p = sym (refuses (eqb-false (refusal 3 (length flat)) 0 p))
+      by-test false p = sym (refuses (eqb-false own-refusal 0 p))
 
   pub solving-solves : noMode (t .normalize) ≡ false → solving t flat ≡ solve (task t) (t .allowance) flat
-  unfolding solving
+  unfolding solving Solve.refusalOf
   solving-solves = with-a-mode (solve (task t) (t .allowance) flat) (of-floats.refuses (task t) flat (t .allowance))
 
   pub source-solves : noMode (t .normalize) ≡ false → solvingSource t flat ≡ lp2dIncreMaxY (task t) flat
-  unfolding solvingSource
+  unfolding solvingSource Solve.refusalOf
   source-solves = with-a-mode (lp2dIncreMaxY (task t) flat) (of-floats.refuses-alike (task t) flat)
 
 -- ---- and of rows that are records
 
 module _ (t : SolveTask) (rows : List Row) where
-  pub rows-refuse : noMode (t .normalize) ≡ true → solvingRows t rows ≡ record { outcome = Refused (orTen (refusal 3 (3 * length rows)) (t .normalize)); rows = rows }
+  pub rows-refuse : noMode (t .normalize) ≡ true
+      → solvingRows t rows ≡ record { outcome = Refused (orTen (refusal 3 (3 * length rows)) (t .normalize)); rows = rows }
   unfolding solvingRows refusalOf Solve.refusalOf
   rows-refuse h = rw (solving-refuses t (flatOf rows) h, length-flatOf rows, rows-of-floats rows)
 

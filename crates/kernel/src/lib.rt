@@ -23,7 +23,8 @@ ghost use Rattle.rounding.specs.Root.{root};
 ghost use Rattle.rounding.specs.Fused.{fused};
 ghost use Rattle.rows.specs.Rows.{refusal, normalizing, normalizedFlat, crossing};
 ghost use Rattle.solve.specs.Solve.{silent};
-ghost use Rattle.kernel.specs.Records.{slot, hasRow, rowNumber, answered, refused, withRows, unsolved, solved, source, ofNormalized, crossed, bounded, recoveredAt};
+ghost use Rattle.kernel.specs.Records.{slot, hasRow, rowNumber, answered, refused, withRows, unsolved, solved, source};
+ghost use Rattle.kernel.specs.Records.{ofNormalized, crossed, recoveredAt};
 ghost use Rattle.kernel.specs.Kernel.{task, noMode, orTen, refusalOf, solving, solvingRows, solvingSource, lineBounds, collector, recovery};
 
 // What to solve, and how; `normalize` is 0 for not normalising, 1 for the source's, and no other number names a mode.

@@ -1,6 +1,6 @@
 -- `kernel::answered` meets its contract.
-use Rattle.kernel.specs.Records.{answered}
 use borrow.Author.Needs.{needs}
+use Rattle.kernel.specs.Records.{answered}
 use Rattle.kernel.proofs.answered.Statement.{statement}
 use Rattle.kernel.proofs.answered.Tie as tie
 

@@ -1,6 +1,6 @@
 -- `kernel::collector_of` meets its contract.
-use Rattle.kernel.specs.Kernel.{collector}
 use borrow.Author.Needs.{needs}
+use Rattle.kernel.specs.Kernel.{collector}
 use Rattle.kernel.proofs.collector_of.Statement.{statement}
 use Rattle.kernel.proofs.collector_of.Tie as tie
 

@@ -1,6 +1,6 @@
 -- `kernel::no_mode` meets its contract.
-use Rattle.kernel.specs.Kernel.{noMode}
 use mathlib.Core.Path.{refl}
+use Rattle.kernel.specs.Kernel.{noMode}
 use Rattle.kernel.proofs.no_mode.Statement.{statement}
 use Rattle.kernel.proofs.no_mode.Tie as tie
 

@@ -1,8 +1,8 @@
 -- `kernel::or_ten` meets its contract.
-use Rattle.kernel.specs.Kernel.{orTen}
-use Rattle.float.specs.Operators.{if_then_else_}
 use borrow.Author.Tests.{eq-eqb, ne-eqb}
 use borrow.Author.Needs.{needs}
+use Rattle.float.specs.Operators.{if_then_else_}
+use Rattle.kernel.specs.Kernel.{orTen}
 use Rattle.kernel.proofs.or_ten.Statement.{statement}
 use Rattle.kernel.proofs.or_ten.Tie as tie
 

@@ -1,7 +1,7 @@
 -- `kernel::ravelsickle_lp_1d` meets its contract.
-use Rattle.kernel.specs.Kernel.{lineBounds}
-use Rattle.kernel.specs.Records.{bounded}
 use borrow.Author.Needs.{needs}
+use Rattle.kernel.specs.Records.{bounded}
+use Rattle.kernel.specs.Kernel.{lineBounds}
 use Rattle.kernel.proofs.ravelsickle_lp_1d.Statement.{statement}
 use Rattle.kernel.proofs.ravelsickle_lp_1d.Tie as tie
 

@@ -1,10 +1,10 @@
 -- `kernel::ravelsickle_lp_2d_incre_max_y` meets its contract.
-use Rattle.kernel.proofs.Refusals.{source-refuses, source-solves}
-use Rattle.kernel.specs.Records.{source}
-use Rattle.solve.specs.Solve.{silent}
-use denote.Ref.{now}
 use mathlib.Core.Path.{sym, _∙_}
 use borrow.Author.Needs.{needs}
+use denote.Ref.{now}
+use Rattle.solve.specs.Solve.{silent}
+use Rattle.kernel.specs.Records.{source}
+use Rattle.kernel.proofs.Refusals.{source-refuses, source-solves}
 use Rattle.kernel.proofs.ravelsickle_lp_2d_incre_max_y.Statement.{statement}
 use Rattle.kernel.proofs.ravelsickle_lp_2d_incre_max_y.Tie as tie
 
@@ -23,7 +23,9 @@ same-length c = search needs
 returns : tie.Need-returns
 unfolding source silent
 returns c =
-    let e = source-refuses (c .before .before .before .before .before .before .args .task) (now (c .before .before .before .before .before .before .args .rows)) (sym (c .before .before .before .before .no-mode .ensures) ∙ c .before .before .before .if1 .taken) in
+    let tested = c .before .before .before in
+    let args = tested .before .before .before .args in
+    let e = source-refuses (args .task) (now (args .rows)) (sym (tested .before .no-mode .ensures) ∙ tested .if1 .taken) in
     (rw (e, ← c .before .refusal-of .ensures) (c .refused .ensures), rw e)
 
 task-of-requires : tie.Need-task-of-requires
@@ -40,9 +42,12 @@ same-length-2 c = search needs
 
 returns-2 : tie.Need-returns-2
 returns-2 c =
-    let e = source-solves (c .before .before .before .before .before .before .before .before .before .args .task) (now (c .before .before .before .before .before .before .before .before .before .args .rows)) (sym (c .before .before .before .before .before .before .before .no-mode .ensures) ∙ c .before .before .before .before .before .before .if1 .left) in
-    let call = c .before .before .before .lp-2d-incre-max-y .ensures in
-    (rw (e, ← c .before .before .before .before .task-of .ensures, ← call .0) (c .source-of .ensures), rw (e, ← c .before .before .before .before .task-of .ensures) (call .1))
+    let call = c .before .before .before in
+    let tested = call .before .before .before in
+    let args = tested .before .before .before .args in
+    let e = source-solves (args .task) (now (args .rows)) (sym (tested .before .no-mode .ensures) ∙ tested .if1 .left) in
+    let t = call .before .task-of .ensures in
+    (rw (e, ← t, ← call .lp-2d-incre-max-y .ensures .0) (c .source-of .ensures), rw (e, ← t) (call .lp-2d-incre-max-y .ensures .1))
 
 pub ravelsickle-lp-2d-incre-max-y-spec : {M : Type 1} → statement M
 ravelsickle-lp-2d-incre-max-y-spec =

@@ -1,6 +1,6 @@
 -- `kernel::ravelsickle_recover_2d_prefix` meets its contract.
-use Rattle.kernel.specs.Kernel.{recovered, recovery}
 use borrow.Author.Needs.{needs}
+use Rattle.kernel.specs.Kernel.{recovered, recovery}
 use Rattle.kernel.proofs.ravelsickle_recover_2d_prefix.Statement.{statement}
 use Rattle.kernel.proofs.ravelsickle_recover_2d_prefix.Tie as tie
 
@@ -34,13 +34,17 @@ recovered-at-requires-2 c κs = search needs
 returns : tie.Need-returns
 unfolding recovery recovered
 returns c =
-    rw (← c .before .before .before .before .before .before .collector-of .ensures, ← c .before .before .before .before .before .recover-2d-prefix .ensures, c .before .before .before .got .given .1, ← c .before .held .ensures) (c .recovered-at .ensures)
+    let told = c .before .before .before in
+    let call = told .before .before in
+    rw (← call .before .collector-of .ensures, ← call .recover-2d-prefix .ensures, told .got .given .1, ← c .before .held .ensures) (c .recovered-at .ensures)
 
 returns-2 : tie.Need-returns-2
 unfolding recovery recovered
 returns-2 c =
-    let told = rw (c .before .before .nan .ensures, c .before .nan2 .ensures) at (c .recovered-at2 .ensures) in
-    rw (← c .before .before .before .before .before .before .before .collector-of .ensures, ← c .before .before .before .before .before .before .recover-2d-prefix .ensures, c .before .before .before .before .got2 .given .1) told
+    let told = c .before .before .before .before in
+    let call = told .before .before in
+    let back = rw (c .before .before .nan .ensures, c .before .nan2 .ensures) at (c .recovered-at2 .ensures) in
+    rw (← call .before .collector-of .ensures, ← call .recover-2d-prefix .ensures, told .got2 .given .1) back
 
 pub ravelsickle-recover-2d-prefix-spec : {M : Type 1} → statement M
 ravelsickle-recover-2d-prefix-spec =

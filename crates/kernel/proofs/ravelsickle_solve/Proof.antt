@@ -1,9 +1,9 @@
 -- `kernel::ravelsickle_solve` meets its contract.
-use Rattle.kernel.proofs.Refusals.{solving-refuses, solving-solves}
-use Rattle.kernel.specs.Records.{solved}
-use denote.Ref.{now}
 use mathlib.Core.Path.{sym, _∙_}
 use borrow.Author.Needs.{needs}
+use denote.Ref.{now}
+use Rattle.kernel.specs.Records.{solved}
+use Rattle.kernel.proofs.Refusals.{solving-refuses, solving-solves}
 use Rattle.kernel.proofs.ravelsickle_solve.Statement.{statement}
 use Rattle.kernel.proofs.ravelsickle_solve.Tie as tie
 
@@ -22,7 +22,9 @@ same-length c = search needs
 returns : tie.Need-returns
 unfolding solved
 returns c =
-    let e = solving-refuses (c .before .before .before .before .before .before .args .task) (now (c .before .before .before .before .before .before .args .rows)) (sym (c .before .before .before .before .no-mode .ensures) ∙ c .before .before .before .if1 .taken) in
+    let tested = c .before .before .before in
+    let args = tested .before .before .before .args in
+    let e = solving-refuses (args .task) (now (args .rows)) (sym (tested .before .no-mode .ensures) ∙ tested .if1 .taken) in
     (rw (e, ← c .before .refusal-of .ensures) (c .unsolved .ensures), rw e)
 
 task-of-requires : tie.Need-task-of-requires
@@ -39,8 +41,12 @@ same-length-2 c = search needs
 
 returns-2 : tie.Need-returns-2
 returns-2 c =
-    let e = solving-solves (c .before .before .before .before .before .before .before .before .before .args .task) (now (c .before .before .before .before .before .before .before .before .before .args .rows)) (sym (c .before .before .before .before .before .before .before .no-mode .ensures) ∙ c .before .before .before .before .before .before .if1 .left) in
-    (rw (e, ← c .before .before .before .before .task-of .ensures, ← c .before .before .before .solve .ensures .0) (c .solved-of .ensures), rw (e, ← c .before .before .before .before .task-of .ensures) (c .before .before .before .solve .ensures .1))
+    let call = c .before .before .before in
+    let tested = call .before .before .before in
+    let args = tested .before .before .before .args in
+    let e = solving-solves (args .task) (now (args .rows)) (sym (tested .before .no-mode .ensures) ∙ tested .if1 .left) in
+    let t = call .before .task-of .ensures in
+    (rw (e, ← t, ← call .solve .ensures .0) (c .solved-of .ensures), rw (e, ← t) (call .solve .ensures .1))
 
 pub ravelsickle-solve-spec : {M : Type 1} → statement M
 ravelsickle-solve-spec =

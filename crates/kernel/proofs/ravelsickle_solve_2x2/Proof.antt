@@ -1,6 +1,6 @@
 -- `kernel::ravelsickle_solve_2x2` meets its contract.
-use Rattle.kernel.specs.Records.{crossed}
 use borrow.Author.Needs.{needs}
+use Rattle.kernel.specs.Records.{crossed}
 use Rattle.kernel.proofs.ravelsickle_solve_2x2.Statement.{statement}
 use Rattle.kernel.proofs.ravelsickle_solve_2x2.Tie as tie
 

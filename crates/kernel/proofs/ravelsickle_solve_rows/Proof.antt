@@ -18,9 +18,11 @@ use prog.Wp.{Heap, Env, Calls, Loops, WpFn}
 use ghost.Atoms.{Atoms, sem}
 use contract.Monad.{Fun, fact}
 use contract.Running.{givenOf, tables, tablesOf}
-use types.Kit.{Sq, runs, frees, prop, atRet, Given, Item, ‵, raw, _⊛_, some, ⋆, _$_, _∵_, !, qed, by, move, keep, drop, use1, use2, split, join, pick, fsplit, fjoin, feqL, suffices, frame, done}
+use types.Kit.{Sq, runs, frees, prop, atRet, Given, Item, ‵, raw, _⊛_, some, ⋆, _$_, _∵_, !, qed, by, suffices, frame, done}
+use types.Kit.{move, keep, drop, use1, use2, split, join, pick, fsplit, fjoin, feqL}
 use types.Part.{whole, sub, look-in, agg}
-use types.Run.{Opd, look, init, forget, stop, hop, fld, from, load, addr, of-opd, and-then, no-more, land, assigns, first, branches, skips, exec, returns, returns-within, enter, alloc1, alloc0, params1, pass1, pass0, free1, free0}
+use types.Run.{Opd, look, init, forget, stop, hop, fld, from, load, addr, of-opd, and-then, no-more, land, assigns, first, branches, skips, exec}
+use types.Run.{returns, returns-within, enter, alloc1, alloc0, params1, pass1, pass0, free1, free0}
 use sound.WpLaws.{FmC, fmOf}
 use denote.RattleType.{owns}
 use denote.Laws.{Is}
@@ -179,7 +181,8 @@ module _ {M : Type 1} (𝓤 : URA M) (H : Heap 𝓤) (A : Atoms 𝓤) (W : Given
   allowance-is : Is u64 allowance (vint w64 allowance ∷ [])
   allowance-is = LL.owed S.the-type S′.the-laws t _ gt .1 .1 .1 .1 .1 .1 .0
 
-  exits : (a : Solved) (w : Val) (zs : List Row) → Is T.the-row a (w ∷ []) → length zs ≡ n → a ≡ solved (solvingRows t rs .outcome) → zs ≡ solvingRows t rs .rows
+  exits : (a : Solved) (w : Val) (zs : List Row) → Is T.the-row a (w ∷ []) → length zs ≡ n
+      → a ≡ solved (solvingRows t rs .outcome) → zs ≡ solvingRows t rs .rows
       → ent 𝓤 (⋆ 𝓤 H A ((‵ (flft κ q) ⊛ ‵ ftrue) ∷ ‵ (finally R.the-row γ zs) ∷ [])) (Post w)
   exits a w zs is l e₁ e₂ =
       qed W ((‵ (flft κ q) ⊛ ‵ ftrue) ∷ ‵ (finally R.the-row γ zs) ∷ []) ∵
@@ -261,7 +264,8 @@ module _ {M : Type 1} (𝓤 : URA M) (H : Heap 𝓤) (A : Atoms 𝓤) (W : Given
     gave-of a = exE 𝓤 _ (λ ws. snd∗ 𝓤 (sem 𝓤 H A (lasts gives.ended tt (r, tt) ws)) (fact 𝓤 (a ≡ solved r)))
 
   -- what a call returned, read as the test of a branch
-  read-as : {K₀ : Type 0} {Γ : List (Item 𝓤)} {E : Env 𝓤 H} {c : Operand} {v : Val} {y : Bool} → Opd K₀ W Γ E c v → v ∷ [] ≡ vbool y ∷ [] → Opd K₀ W Γ E c (vbool y)
+  read-as : {K₀ : Type 0} {Γ : List (Item 𝓤)} {E : Env 𝓤 H} {c : Operand} {v : Val} {y : Bool}
+      → Opd K₀ W Γ E c v → v ∷ [] ≡ vbool y ∷ [] → Opd K₀ W Γ E c (vbool y)
   read-as {K₀ = K₀} {Γ = Γ} {E = E} {c = c} o e = subst (λ (u : Val). Opd K₀ W Γ E c u) (ap only e) o
 
   module _ (C : Calls 𝓤 H) (Λ : Loops 𝓤 H) (fm : FmC 𝓤 H (W .laws) C)
@@ -297,7 +301,8 @@ module _ {M : Type 1} (𝓤 : URA M) (H : Heap 𝓤) (A : Atoms 𝓤) (W : Given
           ∷ ‵ (fat fullShare tyBool l₄ 0 v) ∷ ‵ (fdies tyBool l₄) ∷ ‵ (fat fullShare O′.mir l₃ 0 w) ∷ ‵ (fdies O′.mir l₃) ∷ Params
 
       -- the locals are freed
-      ends : (a : Solved) (w : Val) (zs : List Row) → Is T.the-row a (w ∷ []) → length zs ≡ n → a ≡ solved (solvingRows t rs .outcome) → zs ≡ solvingRows t rs .rows
+      ends : (a : Solved) (w : Val) (zs : List Row) → Is T.the-row a (w ∷ []) → length zs ≡ n
+          → a ≡ solved (solvingRows t rs .outcome) → zs ≡ solvingRows t rs .rows
           → Sq W ((‵ (flft κ q) ⊛ ‵ ftrue) ∷ ‵ (finally R.the-row γ zs) ∷ ‵ (froom K′.mir l₈ 0) ∷ ‵ (fdies K′.mir l₈)
           ∷ ‵ (froom (sliceTy lentRef) l₇ 0) ∷ ‵ (fdies (sliceTy lentRef) l₇) ∷ ‵ (froom lentRef l₆ 0) ∷ ‵ (fdies lentRef l₆)
           ∷ ‵ (froom word l₅ 0) ∷ ‵ (fdies word l₅) ∷ ‵ (froom tyBool l₄ 0) ∷ ‵ (fdies tyBool l₄) ∷ ‵ (froom O′.mir l₃ 0) ∷ ‵ (fdies O′.mir l₃)
@@ -367,7 +372,8 @@ module _ {M : Type 1} (𝓤 : URA M) (H : Heap 𝓤) (A : Atoms 𝓤) (W : Given
     walk =
         qed W ((‵ (flft κ q) ⊛ ‵ ftrue) ∷ ‵ (owns (MutSlice (named 0) κ R.the-row ∷ S.the-row ∷ []) x at) ∷ []) ∵
         split ! $ move ! (2 ∷ []) $ fsplit ! $ keep ! (0 ∷ 2 ∷ []) $ enter ! C Λ code.function args _ $
-        alloc1 ! (λ l₀. alloc1 ! (λ l₁. alloc1 ! (λ l₂. alloc1 ! (λ l₃. alloc1 ! (λ l₄. alloc1 ! (λ l₅. alloc1 ! (λ l₆. alloc1 ! (λ l₇. alloc1 ! (λ l₈. alloc0 ! $
+        alloc1 ! (λ l₀. alloc1 ! (λ l₁. alloc1 ! (λ l₂. alloc1 ! (λ l₃. alloc1 ! (λ l₄.
+        alloc1 ! (λ l₅. alloc1 ! (λ l₆. alloc1 ! (λ l₇. alloc1 ! (λ l₈. alloc0 ! $
         params1 ! $ pass1 ! (init ! 14 refl (tt, (tt, (record { fits = room .0 }, tt)))) $
         pass1 ! (init ! 12 refl (LL.lawful S.the-type S′.the-laws 𝓤 H A W .typed t _ gt .0)) $ pass0 ! $ move ! (19 ∷ 18 ∷ []) $
         -- [the token; the rows; _8; …; _7; …; and so on down to _0]

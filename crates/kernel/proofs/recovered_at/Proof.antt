@@ -1,6 +1,6 @@
 -- `kernel::recovered_at` meets its contract.
-use Rattle.kernel.specs.Records.{recoveredAt}
 use borrow.Author.Needs.{needs}
+use Rattle.kernel.specs.Records.{recoveredAt}
 use Rattle.kernel.proofs.recovered_at.Statement.{statement}
 use Rattle.kernel.proofs.recovered_at.Tie as tie
 

@@ -1,6 +1,6 @@
 -- `kernel::refusal_of` meets its contract.
-use Rattle.kernel.specs.Kernel.{refusalOf}
 use borrow.Author.Needs.{needs}
+use Rattle.kernel.specs.Kernel.{refusalOf}
 use Rattle.kernel.proofs.refusal_of.Statement.{statement}
 use Rattle.kernel.proofs.refusal_of.Tie as tie
 

@@ -1,6 +1,6 @@
 -- `kernel::refused` meets its contract.
-use Rattle.kernel.specs.Records.{refused}
 use borrow.Author.Needs.{needs}
+use Rattle.kernel.specs.Records.{refused}
 use Rattle.kernel.proofs.refused.Statement.{statement}
 use Rattle.kernel.proofs.refused.Tie as tie
 

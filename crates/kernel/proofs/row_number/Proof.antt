@@ -1,6 +1,6 @@
 -- `kernel::row_number` meets its contract.
-use Rattle.kernel.specs.Records.{rowNumber}
 use borrow.Author.Needs.{needs}
+use Rattle.kernel.specs.Records.{rowNumber}
 use Rattle.kernel.proofs.row_number.Statement.{statement}
 use Rattle.kernel.proofs.row_number.Tie as tie
 

@@ -1,6 +1,6 @@
 -- `kernel::solved_of` meets its contract.
-use Rattle.kernel.specs.Records.{solved}
 use borrow.Author.Needs.{needs}
+use Rattle.kernel.specs.Records.{solved}
 use Rattle.kernel.proofs.solved_of.Statement.{statement}
 use Rattle.kernel.proofs.solved_of.Tie as tie
 

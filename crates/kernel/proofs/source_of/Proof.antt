@@ -1,6 +1,6 @@
 -- `kernel::source_of` meets its contract.
-use Rattle.kernel.specs.Records.{source}
 use borrow.Author.Needs.{needs}
+use Rattle.kernel.specs.Records.{source}
 use Rattle.kernel.proofs.source_of.Statement.{statement}
 use Rattle.kernel.proofs.source_of.Tie as tie
 

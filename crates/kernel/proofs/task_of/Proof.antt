@@ -1,7 +1,7 @@
 -- `kernel::task_of` meets its contract.
-use Rattle.kernel.specs.Kernel.{task}
-use Rattle.float.specs.Operators.{if_then_else_}
 use borrow.Author.Tests.{eq-eqb, ne-eqb}
+use Rattle.float.specs.Operators.{if_then_else_}
+use Rattle.kernel.specs.Kernel.{task}
 use Rattle.kernel.proofs.task_of.Statement.{statement}
 use Rattle.kernel.proofs.task_of.Tie as tie
 

@@ -1,6 +1,6 @@
 -- `kernel::unsolved` meets its contract.
-use Rattle.kernel.specs.Records.{unsolved}
 use borrow.Author.Needs.{needs}
+use Rattle.kernel.specs.Records.{unsolved}
 use Rattle.kernel.proofs.unsolved.Statement.{statement}
 use Rattle.kernel.proofs.unsolved.Tie as tie
 

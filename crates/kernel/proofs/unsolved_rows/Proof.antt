@@ -1,6 +1,6 @@
 -- `kernel::unsolved_rows` meets its contract.
-use Rattle.kernel.proofs.Refusals.{many-rows, few-rows}
 use borrow.Author.Needs.{needs}
+use Rattle.kernel.proofs.Refusals.{many-rows, few-rows}
 use Rattle.kernel.proofs.unsolved_rows.Statement.{statement}
 use Rattle.kernel.proofs.unsolved_rows.Tie as tie
 

@@ -1,6 +1,6 @@
 -- `kernel::with_rows` meets its contract.
-use Rattle.kernel.specs.Records.{withRows}
 use borrow.Author.Needs.{needs}
+use Rattle.kernel.specs.Records.{withRows}
 use Rattle.kernel.proofs.with_rows.Statement.{statement}
 use Rattle.kernel.proofs.with_rows.Tie as tie
 
