@@ -1,175 +1,89 @@
--- What the entries of the static library return, and what they leave in the numbers, or the record, lent to them. Assumes nothing.
+-- What the entries of the static library return of the records that C hands them, and what they leave in the rows lent to them. Assumes nothing.
 use Prim.Native.Nat.{ℕ}
-use mathlib.Core.Bool.{Bool, true, false}
-use lib.Ieee.{Float}
-use Rattle.rows.specs.declared.Point.{Point}
+use mathlib.Core.Bool.{Bool, not}
+use mathlib.Core.List.{List}
+use lib.Dec.{eqb, ltb}
+use lib.Ieee.{Float, nan}
+use Rattle.float.specs.Operators.{if_then_else_}
 use Rattle.rows.specs.declared.Row.{Row}
-use Rattle.rows.specs.declared.Normalized.{Normalized}
-use Rattle.rows.specs.declared.Normalized.the-variants as normalized-is
-use Rattle.rows.specs.declared.Crossing.{Crossing}
-use Rattle.rows.specs.declared.Crossing.the-variants as crossing-is
-use Rattle.line.specs.declared.Slot.{Slot}
-use Rattle.line.specs.declared.Slot.the-variants.{NoRow, Holds}
+use Rattle.rows.specs.Rows.{rowsOf, flatOf}
 use Rattle.line.specs.declared.Active.{Active}
-use Rattle.line.specs.declared.Bounds.{Bounds}
-use Rattle.line.specs.declared.Bounds.the-variants as bounds-is
-use Rattle.line.specs.declared.Tolerances.{Tolerances}
-use Rattle.line.specs.Active.{noRows}
+use Rattle.line.specs.Line.{lp1d}
 use Rattle.step.specs.declared.Frame.{Frame}
-use Rattle.step.specs.declared.Collector.{Collector}
 use Rattle.step.specs.declared.Collector.the-variants.{On}
 use Rattle.step.specs.Collector.{held}
 use Rattle.recover.specs.declared.Recovered.{Recovered}
 use Rattle.recover.specs.declared.Recovered.the-variants as recovered-is
-use Rattle.solve.specs.declared.Normalize.{Normalize}
+use Rattle.recover.specs.Recover.{recovering}
 use Rattle.solve.specs.declared.Normalize.the-variants.{Off, Source}
 use Rattle.solve.specs.declared.Task.{Task}
-use Rattle.solve.specs.declared.Answer.{Answer}
-use Rattle.solve.specs.declared.Answer.the-variants as answer-is
-use Rattle.solve.specs.declared.Outcome.{Outcome}
-use Rattle.solve.specs.declared.Outcome.the-variants as outcome-is
-use Rattle.solve.specs.declared.Solution.{Solution}
-use Rattle.solve.specs.declared.Solution.the-variants as solution-is
-use Rattle.solve.specs.Solve.{values}
-use Rattle.kernel.specs.declared.Solved.{Solved}
+use Rattle.solve.specs.declared.Outcome.the-variants.{Refused}
+use Rattle.solve.specs.Solve as Solve
+use Rattle.solve.specs.Solve.{Ended, solve, lp2dIncreMaxY}
+use Rattle.kernel.specs.declared.SolveTask.{SolveTask}
+use Rattle.kernel.specs.declared.LineTask.{LineTask}
+use Rattle.kernel.specs.declared.LineBounds.{LineBounds}
+use Rattle.kernel.specs.declared.RecoveryTask.{RecoveryTask}
+use Rattle.kernel.specs.declared.RecoveredPoint.{RecoveredPoint}
+use Rattle.kernel.specs.Records.{slot, bounded, recoveredAt}
 
--- ---- what crosses as numbers
+-- ---- the solves
 
-unfoldable pub row : Float → Float → Float → Row
-row a b c = record { a = a; b = b; c = c }
-
-unfoldable pub point : Float → Float → Point
-point x y = record { x = x; y = y }
-
-unfoldable pub tolerances : Float → Float → Tolerances
-tolerances feasibility scale = record { feasibility = feasibility; scale = scale }
-
-unfoldable pub frame : Float → Float → Float → Frame
-frame bound epsilon reduced = record { bound = bound; epsilon = epsilon; reduced = reduced }
-
-unfoldable pub mode : Bool → Normalize
-mode false = Off
-mode true = Source
-
-unfoldable pub task : Float → Float → Float → Float → ℕ → Bool → Task
-task feasibility scale x y skip normalize =
-    record { tol = tolerances feasibility scale; start = record { x = x; y = y; skip = skip }; normalize = mode normalize }
-
--- a row is a flag and a number, which means nothing where the flag is false
-unfoldable pub slot : Bool → ℕ → Slot
-slot false k = NoRow
-slot true k = Holds k
-
--- two active rows
-pub record Marks : Type 0 where
-  pub hasFirst : Bool
-  pub first : ℕ
-  pub hasSecond : Bool
-  pub second : ℕ
-
-unfoldable pub marks : Bool → ℕ → Bool → ℕ → Marks
-marks hasFirst first hasSecond second = record { hasFirst = hasFirst; first = first; hasSecond = hasSecond; second = second }
-
-unfoldable pub collector : Marks → Collector
-collector m = On (record { first = slot (m .hasFirst) (m .first); second = slot (m .hasSecond) (m .second) })
-
--- the numbers lent to a solve
-pub record Numbers : Type 0 where
-  pub kind : ℕ
-  pub at : Point
-  pub marks : Marks
-  pub count : ℕ
-
-unfoldable pub numbers : ℕ → Point → Marks → ℕ → Numbers
-numbers kind at marked count = record { kind = kind; at = at; marks = marked; count = count }
-
--- ---- what is left in them: a refusal that says nothing of a number leaves it as it was
-
-unfoldable pub has : Slot → Bool
-has NoRow = false
-has (Holds k) = true
-
--- no row writes no number
-unfoldable pub rowIn : ℕ → Slot → ℕ
-rowIn was NoRow = was
-rowIn was (Holds k) = k
-
-unfoldable pub marked : Marks → Active → Marks
-marked was act = marks (has (act .first)) (rowIn (was .first) (act .first)) (has (act .second)) (rowIn (was .second) (act .second))
-
-unfoldable pub kindOf : Answer → ℕ
-kindOf (answer-is.Point x y) = 0
-kindOf (answer-is.Level y) = 1
-kindOf (answer-is.Across x) = 2
-kindOf answer-is.Nothing = 3
-
-unfoldable pub solved : Numbers → Outcome → Numbers
-solved was (outcome-is.Answered a act n) = numbers (kindOf a) (values a) (marked (was .marks) act) n
-solved was (outcome-is.Stopped k n) = numbers (was .kind) (was .at) (marked (was .marks) noRows) n
-solved was (outcome-is.Refused k) = was
-
--- the same in one record
-unfoldable pub solvedRecord : Solved → Outcome → Solved
-solvedRecord was (outcome-is.Answered a act n) =
+-- the task that a solve takes; a number above 1, which names no mode, is refused before the mode matters
+unfoldable pub task : SolveTask → Task
+task t =
     record {
-      kind = kindOf a;
-      x = values a .x;
-      y = values a .y;
-      has1 = has (act .first);
-      row1 = rowIn (was .row1) (act .first);
-      has2 = has (act .second);
-      row2 = rowIn (was .row2) (act .second);
-      count = n;
+      tol = record { feasibility = t .feasibility; scale = t .scale };
+      start = record { x = t .x0; y = t .y0; skip = t .skip };
+      normalize = if eqb (t .normalize) 0 then Off else Source;
     }
-solvedRecord was (outcome-is.Stopped k n) = record { kind = was .kind; x = was .x; y = was .y; has1 = false; row1 = was .row1; has2 = false; row2 = was .row2; count = n }
-solvedRecord was (outcome-is.Refused k) = was
 
-unfoldable pub kindAfter : ℕ → Solution → ℕ
-kindAfter was (solution-is.Answered a) = kindOf a
-kindAfter was (solution-is.Refused k) = was
+-- no mode of normalising has this number: 0 is for none, 1 for the source's
+unfoldable pub noMode : ℕ → Bool
+noMode number = ltb 1 number
 
-unfoldable pub pointAfter : Point → Solution → Point
-pointAfter was (solution-is.Answered a) = values a
-pointAfter was (solution-is.Refused k) = was
+-- a refusal; where there is none (0), 10 for a number that names no mode
+unfoldable pub orTen : ℕ → ℕ → ℕ
+orTen number mode = if not (eqb number 0) then number else if noMode mode then 10 else 0
 
-unfoldable pub crossed : Point → Crossing → Point
-crossed was (crossing-is.At p) = p
-crossed was (crossing-is.Refused k) = was
+-- which refusal an input gets before a row is read, and 0 where it gets none: the solve's own, 1 or 2, and then 10
+unfoldable pub refusalOf : SolveTask → List Float → ℕ
+refusalOf t flat = orTen (Solve.refusalOf (task t) flat) (t .normalize)
 
-unfoldable pub highAfter : Float → Bounds → Float
-highAfter was (bounds-is.Between high low) = high
-highAfter was (bounds-is.Refused k) = was
+-- that refusal, which leaves the floats as they were; without one, what a solve comes to
+unfoldable pub unlessRefused : SolveTask → List Float → Ended (List Float) → Ended (List Float)
+unlessRefused t flat e =
+    let number = refusalOf t flat in
+    if eqb number 0 then e else record { outcome = Refused number; rows = flat }
 
-unfoldable pub lowAfter : Float → Bounds → Float
-lowAfter was (bounds-is.Between high low) = low
-lowAfter was (bounds-is.Refused k) = was
+unfoldable pub solving : SolveTask → List Float → Ended (List Float)
+solving t flat = unlessRefused t flat (solve (task t) (t .allowance) flat)
 
-unfoldable pub recoveredAt : Point → Recovered → Point
-recoveredAt was (recovered-is.At p coll) = p
-recoveredAt was (recovered-is.Refused k) = was
+-- of rows that are records: the same of their floats, one row after the other
+unfoldable pub solvingRows : SolveTask → List Row → Ended (List Row)
+solvingRows t rows =
+    let e = solving t (flatOf rows) in
+    record { outcome = e .outcome; rows = rowsOf (e .rows) }
 
-unfoldable pub recoveredOn : Marks → Recovered → Marks
-recoveredOn was (recovered-is.At p coll) = marked was (held coll)
-recoveredOn was (recovered-is.Refused k) = was
+-- the source's own entry, which has no allowance
+unfoldable pub solvingSource : SolveTask → List Float → Ended (List Float)
+solvingSource t flat = unlessRefused t flat (lp2dIncreMaxY (task t) flat)
 
--- ---- the paper's number, 0 without a refusal
+-- ---- one dimension, and recovery
 
-unfoldable pub ofNormalized : Normalized → ℕ
-ofNormalized normalized-is.Done = 0
-ofNormalized (normalized-is.Refused k) = k
+unfoldable pub lineBounds : LineTask → List Float → LineBounds
+lineBounds t flat = bounded (lp1d (t .autonan) (record { feasibility = t .feasibility; scale = t .scale }) flat)
 
-unfoldable pub ofCrossing : Crossing → ℕ
-ofCrossing (crossing-is.At p) = 0
-ofCrossing (crossing-is.Refused k) = k
+-- the collector that the caller hands over
+unfoldable pub collector : RecoveryTask → Active
+collector t = record { first = slot (t .«has_first») (t .first); second = slot (t .«has_second») (t .second) }
 
-unfoldable pub ofBounds : Bounds → ℕ
-ofBounds (bounds-is.Between high low) = 0
-ofBounds (bounds-is.Refused k) = k
+-- a refusal gives it back
+unfoldable pub recovered : Active → Recovered → RecoveredPoint
+recovered act (recovered-is.At p found) = recoveredAt 0 p (held found)
+recovered act (recovered-is.Refused number) = recoveredAt number (record { x = nan; y = nan }) act
 
-unfoldable pub ofRecovered : Recovered → ℕ
-ofRecovered (recovered-is.At p coll) = 0
-ofRecovered (recovered-is.Refused k) = k
-
-unfoldable pub ofSolution : Solution → ℕ
-ofSolution (solution-is.Answered a) = 0
-ofSolution (solution-is.Refused k) = k
+unfoldable pub recovery : RecoveryTask → List Float → RecoveredPoint
+recovery t flat =
+    let frame : Frame = record { bound = t .bound; epsilon = t .epsilon; reduced = t .reduced } in
+    recovered (collector t) (recovering flat (t .upto) (record { x = t .x0; y = t .y0 }) frame (On (collector t)))

@@ -1,5 +1,5 @@
-// The static library: every public entry for C. An entry returns 0 or the number of the refusal, and writes what it answers
-// through the numbers, or the record, lent to it; what a refusal says nothing of stays as it was.
+// The static library: every public entry for C. Rows are lent. Everything else goes in by value, and what comes back is a
+// record by value whose first number is the refusal's, 0 where there is none; every field of it has a value for every input.
 use line::Active;
 use line::Bounds;
 use line::Slot;
@@ -18,30 +18,102 @@ use solve::WarmStart;
 use step::Collector;
 use step::Frame;
 ghost use mathlib.Core.Path.{_≡_};
-ghost use mathlib.Core.Bool.{false};
+ghost use Prim.Native.Nat.{_*_};
 ghost use Rattle.rounding.specs.Root.{root};
 ghost use Rattle.rounding.specs.Fused.{fused};
-ghost use Rattle.rows.specs.Rows.{normalizing, normalizedFlat, crossing};
-ghost use Rattle.line.specs.Line.{lp1d};
-ghost use Rattle.recover.specs.Recover.{recovering};
-ghost use Rattle.solve.specs.Solve.{solve, lp2dIncreMaxY, silent, number, values};
-ghost use Rattle.lent.specs.Lent.{solveRows};
-ghost use Rattle.kernel.specs.Kernel.{row, point, tolerances, frame, task, slot, marks, collector, numbers, has, rowIn, marked, kindOf, solved, solvedRecord, kindAfter, pointAfter, crossed, highAfter, lowAfter, recoveredAt, recoveredOn, ofNormalized, ofCrossing, ofBounds, ofRecovered, ofSolution};
+ghost use Rattle.rows.specs.Rows.{refusal, normalizing, normalizedFlat, crossing};
+ghost use Rattle.solve.specs.Solve.{silent};
+ghost use Rattle.kernel.specs.Records.{slot, hasRow, rowNumber, answered, refused, withRows, unsolved, solved, source};
+ghost use Rattle.kernel.specs.Records.{ofNormalized, crossed, recoveredAt};
+ghost use Rattle.kernel.specs.Kernel.{task, noMode, orTen, refusalOf, solving, solvingRows, solvingSource, lineBounds, collector, recovery};
 
-// What a solve answers, as one record.
+// What to solve, and how; `normalize` is 0 for not normalising, 1 for the source's, and no other number names a mode.
+#[repr(C)]
+pub struct SolveTask {
+    pub feasibility: f64,
+    pub scale: f64,
+    pub x0: f64,
+    pub y0: f64,
+    pub skip: usize,
+    pub normalize: u64,
+    pub allowance: u64,
+}
+
+// What a solve answers. A row's number means something only where its flag is true.
 #[repr(C)]
 pub struct Solved {
+    pub refusal: u64,
     pub kind: u64,
     pub x: f64,
     pub y: f64,
-    pub has1: bool,
-    pub row1: usize,
-    pub has2: bool,
-    pub row2: usize,
     pub count: u64,
+    pub first: usize,
+    pub second: usize,
+    pub has_first: bool,
+    pub has_second: bool,
 }
 
-// ---- to and from numbers
+// What the source's own entry answers.
+#[repr(C)]
+pub struct SourceSolved {
+    pub refusal: u64,
+    pub kind: u64,
+    pub x: f64,
+    pub y: f64,
+}
+
+// The point on two boundaries.
+#[repr(C)]
+pub struct Crossed {
+    pub refusal: u64,
+    pub x: f64,
+    pub y: f64,
+}
+
+// How pairs are taken together.
+#[repr(C)]
+pub struct LineTask {
+    pub feasibility: f64,
+    pub scale: f64,
+    pub autonan: bool,
+}
+
+// The ends of a line.
+#[repr(C)]
+pub struct LineBounds {
+    pub refusal: u64,
+    pub high: f64,
+    pub low: f64,
+}
+
+// What to recover, with the caller's collector in the four last.
+#[repr(C)]
+pub struct RecoveryTask {
+    pub upto: usize,
+    pub x0: f64,
+    pub y0: f64,
+    pub bound: f64,
+    pub epsilon: f64,
+    pub reduced: f64,
+    pub first: usize,
+    pub second: usize,
+    pub has_first: bool,
+    pub has_second: bool,
+}
+
+// What recovery answers, with the collector afterwards.
+#[repr(C)]
+pub struct RecoveredPoint {
+    pub refusal: u64,
+    pub x: f64,
+    pub y: f64,
+    pub first: usize,
+    pub second: usize,
+    pub has_first: bool,
+    pub has_second: bool,
+}
+
+// ---- a row or no row, as a flag and a number
 
 fn slot_of(held: bool, row: usize) -> Slot
     ensures { λ s. ⌜ s ≡ slot held row ⌝ }
@@ -52,126 +124,8 @@ fn slot_of(held: bool, row: usize) -> Slot
     Slot::NoRow
 }
 
-fn collector_of(has1: bool, row1: usize, has2: bool, row2: usize) -> Collector
-    ensures { λ k. ⌜ k ≡ collector (marks has1 row1 has2 row2) ⌝ }
-{
-    let one = slot_of(has1, row1);
-    let other = slot_of(has2, row2);
-    Collector::On(Active {
-        first: one,
-        second: other,
-    })
-}
-
-fn task_of(feasibility: f64, scale: f64, x: f64, y: f64, skip: usize, normalize: bool) -> Task
-    ensures { λ t. ⌜ t ≡ task feasibility scale x y skip normalize ⌝ }
-{
-    let mode = if normalize {
-        Normalize::Source
-    } else {
-        Normalize::Off
-    };
-    Task {
-        tol: Tolerances {
-            feasibility: feasibility,
-            scale: scale,
-        },
-        start: WarmStart {
-            x: x,
-            y: y,
-            skip: skip,
-        },
-        normalize: mode,
-    }
-}
-
-fn put_slot(found: Slot, held: &mut bool, row: &mut usize)
-    ensures flag { λ _. ⌜ now (held .exit) ≡ has found ⌝ }
-    ensures number { λ _. ⌜ now (row .exit) ≡ rowIn (now (row .entry)) found ⌝ }
-{
-    match found {
-        Slot::NoRow => {
-            *held = false;
-        }
-        Slot::Holds(k) => {
-            *held = true;
-            *row = k;
-        }
-    }
-}
-
-fn put_active(act: Active, has1: &mut bool, row1: &mut usize, has2: &mut bool, row2: &mut usize)
-    ensures { λ _. ⌜ marks (now (has1 .exit)) (now (row1 .exit)) (now (has2 .exit)) (now (row2 .exit)) ≡ marked (marks (now (has1 .entry)) (now (row1 .entry)) (now (has2 .entry)) (now (row2 .entry))) act ⌝ }
-{
-    let one = act.first;
-    let other = act.second;
-    put_slot(one, has1, row1);
-    put_slot(other, has2, row2);
-}
-
-// A coordinate that the answer does not have is NaN.
-fn put_answer(a: Answer, kind: &mut u64, x: &mut f64, y: &mut f64)
-    ensures kind { λ _. ⌜ now (kind .exit) ≡ kindOf a ⌝ }
-    ensures at { λ _. ⌜ point (now (x .exit)) (now (y .exit)) ≡ values a ⌝ }
-{
-    match a {
-        Answer::Point(p, q) => {
-            *kind = 0;
-            *x = p;
-            *y = q;
-        }
-        Answer::Level(q) => {
-            *kind = 1;
-            *x = float::nan();
-            *y = q;
-        }
-        Answer::Across(p) => {
-            *kind = 2;
-            *x = p;
-            *y = float::nan();
-        }
-        Answer::Nothing => {
-            *kind = 3;
-            *x = float::nan();
-            *y = float::nan();
-        }
-    }
-}
-
-fn put_outcome(
-    got: Outcome,
-    kind: &mut u64,
-    x: &mut f64,
-    y: &mut f64,
-    has1: &mut bool,
-    row1: &mut usize,
-    has2: &mut bool,
-    row2: &mut usize,
-    count: &mut u64,
-) -> u64
-    ensures answer { λ r. ⌜ r ≡ number got ⌝ }
-    ensures lent { λ _. ⌜ numbers (now (kind .exit)) (point (now (x .exit)) (now (y .exit))) (marks (now (has1 .exit)) (now (row1 .exit)) (now (has2 .exit)) (now (row2 .exit))) (now (count .exit)) ≡ solved (numbers (now (kind .entry)) (point (now (x .entry)) (now (y .entry))) (marks (now (has1 .entry)) (now (row1 .entry)) (now (has2 .entry)) (now (row2 .entry))) (now (count .entry))) got ⌝ }
-{
-    match got {
-        Outcome::Refused(number) => number,
-        Outcome::Stopped(number, n) => {
-            put_active(line::no_rows(), has1, row1, has2, row2);
-            *count = n;
-            number
-        }
-        Outcome::Answered(a, act, n) => {
-            put_answer(a, kind, x, y);
-            put_active(act, has1, row1, has2, row2);
-            *count = n;
-            0
-        }
-    }
-}
-
-// ---- to a record
-
 fn has_row(found: Slot) -> bool
-    ensures { λ b. ⌜ b ≡ has found ⌝ }
+    ensures { λ b. ⌜ b ≡ hasRow found ⌝ }
 {
     match found {
         Slot::NoRow => false,
@@ -179,81 +133,151 @@ fn has_row(found: Slot) -> bool
     }
 }
 
-fn row_in(was: usize, found: Slot) -> usize
-    ensures { λ k. ⌜ k ≡ rowIn was found ⌝ }
+fn row_number(found: Slot) -> usize
+    ensures { λ k. ⌜ k ≡ rowNumber found ⌝ }
 {
     match found {
-        Slot::NoRow => was,
+        Slot::NoRow => 0,
         Slot::Holds(k) => k,
     }
 }
 
-fn kind_of(a: Answer) -> u64
-    ensures { λ k. ⌜ k ≡ kindOf a ⌝ }
+// ---- a solve's task
+
+fn task_of(t: SolveTask) -> Task
+    ensures { λ k. ⌜ k ≡ task t ⌝ }
 {
-    match a {
-        Answer::Point(_, _) => 0,
-        Answer::Level(_) => 1,
-        Answer::Across(_) => 2,
-        Answer::Nothing => 3,
+    let mode = if t.normalize == 0 {
+        Normalize::Off
+    } else {
+        Normalize::Source
+    };
+    Task {
+        tol: Tolerances {
+            feasibility: t.feasibility,
+            scale: t.scale,
+        },
+        start: WarmStart {
+            x: t.x0,
+            y: t.y0,
+            skip: t.skip,
+        },
+        normalize: mode,
     }
 }
+
+// No mode of normalising has this number.
+fn no_mode(number: u64) -> bool
+    ensures { λ b. ⌜ b ≡ noMode number ⌝ }
+{
+    number > 1
+}
+
+// A refusal; where there is none, 10 for a number that names no mode.
+fn or_ten(number: u64, mode: u64) -> u64
+    ensures { λ k. ⌜ k ≡ orTen number mode ⌝ }
+{
+    if number != 0 {
+        return number;
+    }
+    if no_mode(mode) {
+        return 10;
+    }
+    0
+}
+
+// Which refusal a solve's input gets before a row is read, and 0 where it gets none.
+fn refusal_of(rows: &[f64], t: SolveTask) -> u64
+    ensures { λ k. ⌜ k ≡ refusalOf t (now (rows .entry)) ⌝ }
+{
+    or_ten(solve::refusal_of(rows, task_of(t)), t.normalize)
+}
+
+// ---- what a solve answers
 
 // A coordinate that the answer does not have is NaN.
-fn values_of(a: Answer) -> Point
-    ensures { λ p. ⌜ p ≡ values a ⌝ }
+fn answered(a: Answer) -> SourceSolved
+    ensures { λ s. ⌜ s ≡ answered a ⌝ }
 {
-    let none = float::nan();
     match a {
-        Answer::Point(x, y) => Point { x: x, y: y },
-        Answer::Level(y) => Point { x: none, y: y },
-        Answer::Across(x) => Point { x: x, y: none },
-        Answer::Nothing => Point { x: none, y: none },
-    }
-}
-
-// What the record holds after a solve: refusals 1 and 2 leave it as it was.
-fn solved_of(got: Outcome, was: Solved) -> Solved
-    ensures { λ s. ⌜ s ≡ solvedRecord was got ⌝ }
-{
-    match got {
-        Outcome::Refused(_) => was,
-        Outcome::Stopped(_, taken) => Solved {
-            kind: was.kind,
-            x: was.x,
-            y: was.y,
-            has1: false,
-            row1: was.row1,
-            has2: false,
-            row2: was.row2,
-            count: taken,
+        Answer::Point(x, y) => SourceSolved {
+            refusal: 0,
+            kind: 1,
+            x: x,
+            y: y,
         },
-        Outcome::Answered(a, act, n) => {
-            let one = act.first;
-            let other = act.second;
-            let at = values_of(a);
-            Solved {
-                kind: kind_of(a),
-                x: at.x,
-                y: at.y,
-                has1: has_row(one),
-                row1: row_in(was.row1, one),
-                has2: has_row(other),
-                row2: row_in(was.row2, other),
-                count: n,
-            }
-        }
+        Answer::Level(y) => SourceSolved {
+            refusal: 0,
+            kind: 2,
+            x: float::nan(),
+            y: y,
+        },
+        Answer::Across(x) => SourceSolved {
+            refusal: 0,
+            kind: 3,
+            x: x,
+            y: float::nan(),
+        },
+        Answer::Nothing => SourceSolved {
+            refusal: 0,
+            kind: 4,
+            x: float::nan(),
+            y: float::nan(),
+        },
     }
 }
 
-// The paper's number, 0 without a refusal.
-fn number_of(got: Outcome) -> u64
-    ensures { λ r. ⌜ r ≡ number got ⌝ }
+fn refused(number: u64) -> SourceSolved
+    ensures { λ s. ⌜ s ≡ refused number ⌝ }
+{
+    SourceSolved {
+        refusal: number,
+        kind: 0,
+        x: float::nan(),
+        y: float::nan(),
+    }
+}
+
+fn with_rows(s: SourceSolved, count: u64, act: Active) -> Solved
+    ensures { λ r. ⌜ r ≡ withRows s count act ⌝ }
+{
+    let one = act.first;
+    let other = act.second;
+    Solved {
+        refusal: s.refusal,
+        kind: s.kind,
+        x: s.x,
+        y: s.y,
+        count: count,
+        first: row_number(one),
+        second: row_number(other),
+        has_first: has_row(one),
+        has_second: has_row(other),
+    }
+}
+
+fn unsolved(number: u64, count: u64) -> Solved
+    ensures { λ s. ⌜ s ≡ unsolved number count ⌝ }
+{
+    with_rows(refused(number), count, line::no_rows())
+}
+
+fn solved_of(got: Outcome) -> Solved
+    ensures { λ s. ⌜ s ≡ solved got ⌝ }
 {
     match got {
-        Outcome::Refused(k) => k,
-        Outcome::Stopped(k, _) => k,
-        Outcome::Answered(_, _, _) => 0,
+        Outcome::Answered(a, act, n) => with_rows(answered(a), n, act),
+        Outcome::Stopped(number, n) => unsolved(number, n),
+        Outcome::Refused(number) => unsolved(number, 0),
+    }
+}
+
+fn source_of(got: Solution) -> SourceSolved
+    ensures { λ s. ⌜ s ≡ source got ⌝ }
+{
+    match got {
+        Solution::Answered(a) => answered(a),
+        Solution::Refused(number) => refused(number),
     }
 }
 
@@ -286,189 +310,150 @@ pub extern "C" fn ravelsickle_normalize(rows: &mut [f64]) -> u64
 }
 
 #[no_mangle]
-pub extern "C" fn ravelsickle_solve_2x2(
-    a0: f64,
-    b0: f64,
-    c0: f64,
-    a1: f64,
-    b1: f64,
-    c1: f64,
-    x: &mut f64,
-    y: &mut f64,
-) -> u64
-    ensures answer { λ r. ⌜ r ≡ ofCrossing (crossing (row a0 b0 c0) (row a1 b1 c1)) ⌝ }
-    ensures lent { λ _. ⌜ point (now (x .exit)) (now (y .exit)) ≡ crossed (point (now (x .entry)) (now (y .entry))) (crossing (row a0 b0 c0) (row a1 b1 c1)) ⌝ }
+pub extern "C" fn ravelsickle_solve_2x2(r: Row, s: Row) -> Crossed
+    ensures { λ c. ⌜ c ≡ crossed (crossing r s) ⌝ }
 {
-    let r = Row {
-        a: a0,
-        b: b0,
-        c: c0,
-    };
-    let s = Row {
-        a: a1,
-        b: b1,
-        c: c1,
-    };
     let got = rows::solve_2x2(r, s);
     match got {
-        Crossing::Refused(number) => number,
-        Crossing::At(p) => {
-            *x = p.x;
-            *y = p.y;
-            0
-        }
+        Crossing::At(p) => Crossed {
+            refusal: 0,
+            x: p.x,
+            y: p.y,
+        },
+        Crossing::Refused(number) => Crossed {
+            refusal: number,
+            x: float::nan(),
+            y: float::nan(),
+        },
     }
 }
 
 #[no_mangle]
-pub extern "C" fn ravelsickle_lp_1d(
-    pairs: &[f64],
-    autonan: bool,
-    feasibility: f64,
-    scale: f64,
-    high: &mut f64,
-    low: &mut f64,
-) -> u64
-    ensures answer { λ r. ⌜ r ≡ ofBounds (lp1d autonan (tolerances feasibility scale) (now (pairs .entry))) ⌝ }
-    ensures high { λ _. ⌜ now (high .exit) ≡ highAfter (now (high .entry)) (lp1d autonan (tolerances feasibility scale) (now (pairs .entry))) ⌝ }
-    ensures low { λ _. ⌜ now (low .exit) ≡ lowAfter (now (low .entry)) (lp1d autonan (tolerances feasibility scale) (now (pairs .entry))) ⌝ }
+pub extern "C" fn ravelsickle_lp_1d(pairs: &[f64], task: LineTask) -> LineBounds
+    ensures { λ b. ⌜ b ≡ lineBounds task (now (pairs .entry)) ⌝ }
 {
     let tol = Tolerances {
-        feasibility: feasibility,
-        scale: scale,
+        feasibility: task.feasibility,
+        scale: task.scale,
     };
-    let got = line::lp_1d(pairs, autonan, tol);
+    let got = line::lp_1d(pairs, task.autonan, tol);
     match got {
-        Bounds::Refused(number) => number,
-        Bounds::Between(top, bottom) => {
-            *high = top;
-            *low = bottom;
-            0
-        }
+        Bounds::Between(high, low) => LineBounds {
+            refusal: 0,
+            high: high,
+            low: low,
+        },
+        Bounds::Refused(number) => LineBounds {
+            refusal: number,
+            high: float::nan(),
+            low: float::nan(),
+        },
     }
 }
 
-// ---- recovery, and the solves
+// ---- recovery
 
-// The four last are the caller's collector, before and after.
-#[no_mangle]
-pub extern "C" fn ravelsickle_recover_2d_prefix(
-    rows: &[f64],
-    upto: usize,
-    x0: f64,
-    y0: f64,
-    bound: f64,
-    epsilon: f64,
-    reduced: f64,
-    x: &mut f64,
-    y: &mut f64,
-    has1: &mut bool,
-    row1: &mut usize,
-    has2: &mut bool,
-    row2: &mut usize,
-) -> u64
-    ensures answer { λ r. ⌜ r ≡ ofRecovered (recovering (now (rows .entry)) upto (point x0 y0) (frame bound epsilon reduced) (collector (marks (now (has1 .entry)) (now (row1 .entry)) (now (has2 .entry)) (now (row2 .entry))))) ⌝ }
-    ensures at { λ _. ⌜ point (now (x .exit)) (now (y .exit)) ≡ recoveredAt (point (now (x .entry)) (now (y .entry))) (recovering (now (rows .entry)) upto (point x0 y0) (frame bound epsilon reduced) (collector (marks (now (has1 .entry)) (now (row1 .entry)) (now (has2 .entry)) (now (row2 .entry))))) ⌝ }
-    ensures collector { λ _. ⌜ marks (now (has1 .exit)) (now (row1 .exit)) (now (has2 .exit)) (now (row2 .exit)) ≡ recoveredOn (marks (now (has1 .entry)) (now (row1 .entry)) (now (has2 .entry)) (now (row2 .entry))) (recovering (now (rows .entry)) upto (point x0 y0) (frame bound epsilon reduced) (collector (marks (now (has1 .entry)) (now (row1 .entry)) (now (has2 .entry)) (now (row2 .entry))))) ⌝ }
+// The caller's collector. A slot without its flag is no row.
+fn collector_of(t: RecoveryTask) -> Active
+    ensures { λ act. ⌜ act ≡ collector t ⌝ }
 {
-    let at = Point { x: x0, y: y0 };
+    let one = slot_of(t.has_first, t.first);
+    let other = slot_of(t.has_second, t.second);
+    Active {
+        first: one,
+        second: other,
+    }
+}
+
+fn recovered_at(number: u64, p: Point, act: Active) -> RecoveredPoint
+    ensures { λ r. ⌜ r ≡ recoveredAt number p act ⌝ }
+{
+    let one = act.first;
+    let other = act.second;
+    RecoveredPoint {
+        refusal: number,
+        x: p.x,
+        y: p.y,
+        first: row_number(one),
+        second: row_number(other),
+        has_first: has_row(one),
+        has_second: has_row(other),
+    }
+}
+
+#[no_mangle]
+pub extern "C" fn ravelsickle_recover_2d_prefix(rows: &[f64], task: RecoveryTask) -> RecoveredPoint
+    ensures { λ r. ⌜ r ≡ recovery task (now (rows .entry)) ⌝ }
+{
+    let at = Point {
+        x: task.x0,
+        y: task.y0,
+    };
     let f = Frame {
-        bound: bound,
-        epsilon: epsilon,
-        reduced: reduced,
+        bound: task.bound,
+        epsilon: task.epsilon,
+        reduced: task.reduced,
     };
-    let coll = collector_of(*has1, *row1, *has2, *row2);
-    let got = recover::recover_2d_prefix(rows, upto, at, f, coll);
+    let act = collector_of(task);
+    let got = recover::recover_2d_prefix(rows, task.upto, at, f, Collector::On(act));
     match got {
-        Recovered::Refused(number) => number,
-        Recovered::At(p, found) => {
-            *x = p.x;
-            *y = p.y;
-            put_active(step::held(found), has1, row1, has2, row2);
-            0
+        Recovered::At(p, found) => recovered_at(0, p, step::held(found)),
+        Recovered::Refused(number) => {
+            let nowhere = Point {
+                x: float::nan(),
+                y: float::nan(),
+            };
+            recovered_at(number, nowhere, act)
         }
     }
 }
 
-#[no_mangle]
-pub extern "C" fn ravelsickle_solve(
-    rows: &mut [f64],
-    feasibility: f64,
-    scale: f64,
-    x0: f64,
-    y0: f64,
-    skip: usize,
-    normalize: bool,
-    allowance: u64,
-    kind: &mut u64,
-    x: &mut f64,
-    y: &mut f64,
-    has1: &mut bool,
-    row1: &mut usize,
-    has2: &mut bool,
-    row2: &mut usize,
-    count: &mut u64,
-) -> u64
-    ensures answer { λ r. ⌜ r ≡ number (solve (task feasibility scale x0 y0 skip normalize) allowance (now (rows .entry)) .outcome) ⌝ }
-    ensures lent { λ _. ⌜ now (rows .exit) ≡ solve (task feasibility scale x0 y0 skip normalize) allowance (now (rows .entry)) .rows ⌝ }
-    ensures numbers { λ _. ⌜ numbers (now (kind .exit)) (point (now (x .exit)) (now (y .exit))) (marks (now (has1 .exit)) (now (row1 .exit)) (now (has2 .exit)) (now (row2 .exit))) (now (count .exit)) ≡ solved (numbers (now (kind .entry)) (point (now (x .entry)) (now (y .entry))) (marks (now (has1 .entry)) (now (row1 .entry)) (now (has2 .entry)) (now (row2 .entry))) (now (count .entry))) (solve (task feasibility scale x0 y0 skip normalize) allowance (now (rows .entry)) .outcome) ⌝ }
-{
-    let got = solve::solve(
-        rows,
-        task_of(feasibility, scale, x0, y0, skip, normalize),
-        allowance,
-    );
-    put_outcome(got, kind, x, y, has1, row1, has2, row2, count)
-}
+// ---- the solves: a number that names no mode is refused, whatever the rows are; any other task is the solve's own
 
-// The solve of rows that are records, which answers in a record.
 #[no_mangle]
-pub extern "C" fn ravelsickle_solve_rows(
-    rows: &mut [Row],
-    feasibility: f64,
-    scale: f64,
-    x0: f64,
-    y0: f64,
-    skip: usize,
-    normalize: bool,
-    allowance: u64,
-    answer: &mut Solved,
-) -> u64
-    ensures answer { λ r. ⌜ r ≡ number (solveRows (task feasibility scale x0 y0 skip normalize) allowance (now (rows .entry)) .outcome) ⌝ }
-    ensures lent { λ _. ⌜ now (rows .exit) ≡ solveRows (task feasibility scale x0 y0 skip normalize) allowance (now (rows .entry)) .rows ⌝ }
-    ensures written { λ _. ⌜ now (answer .exit) ≡ solvedRecord (now (answer .entry)) (solveRows (task feasibility scale x0 y0 skip normalize) allowance (now (rows .entry)) .outcome) ⌝ }
+pub extern "C" fn ravelsickle_solve(rows: &mut [f64], task: SolveTask) -> Solved
+    ensures answer { λ s. ⌜ s ≡ solved (solving task (now (rows .entry)) .outcome) ⌝ }
+    ensures lent { λ _. ⌜ now (rows .exit) ≡ solving task (now (rows .entry)) .rows ⌝ }
 {
-    let t = task_of(feasibility, scale, x0, y0, skip, normalize);
-    let got = lent::solve_rows(rows, t, allowance);
-    *answer = solved_of(got, *answer);
-    number_of(got)
-}
-
-// The source's own entry, with no allowance and a silent collector.
-#[no_mangle]
-pub extern "C" fn ravelsickle_lp_2d_incre_max_y(
-    rows: &mut [f64],
-    feasibility: f64,
-    scale: f64,
-    x0: f64,
-    y0: f64,
-    skip: usize,
-    normalize: bool,
-    kind: &mut u64,
-    x: &mut f64,
-    y: &mut f64,
-) -> u64
-    ensures answer { λ r. ⌜ r ≡ ofSolution (silent (lp2dIncreMaxY (task feasibility scale x0 y0 skip normalize) (now (rows .entry)) .outcome)) ⌝ }
-    ensures lent { λ _. ⌜ now (rows .exit) ≡ lp2dIncreMaxY (task feasibility scale x0 y0 skip normalize) (now (rows .entry)) .rows ⌝ }
-    ensures kind { λ _. ⌜ now (kind .exit) ≡ kindAfter (now (kind .entry)) (silent (lp2dIncreMaxY (task feasibility scale x0 y0 skip normalize) (now (rows .entry)) .outcome)) ⌝ }
-    ensures at { λ _. ⌜ point (now (x .exit)) (now (y .exit)) ≡ pointAfter (point (now (x .entry)) (now (y .entry))) (silent (lp2dIncreMaxY (task feasibility scale x0 y0 skip normalize) (now (rows .entry)) .outcome)) ⌝ }
-{
-    let got = solve::lp_2d_incre_max_y(rows, task_of(feasibility, scale, x0, y0, skip, normalize));
-    match got {
-        Solution::Refused(number) => number,
-        Solution::Answered(a) => {
-            put_answer(a, kind, x, y);
-            0
-        }
+    if no_mode(task.normalize) {
+        return unsolved(refusal_of(rows, task), 0);
     }
+    let got = solve::solve(rows, task_of(task), task.allowance);
+    solved_of(got)
+}
+
+// Of n rows that are records, which always come out even.
+fn unsolved_rows(n: usize, mode: u64) -> Solved
+    ensures { λ s. ⌜ s ≡ unsolved (orTen (refusal 3 (3 * n)) mode) 0 ⌝ }
+{
+    if n > 4096 {
+        return unsolved(2, 0);
+    }
+    unsolved(or_ten(0, mode), 0)
+}
+
+// Over rows that are records.
+#[no_mangle]
+pub extern "C" fn ravelsickle_solve_rows(rows: &mut [Row], task: SolveTask) -> Solved
+    ensures answer { λ s. ⌜ s ≡ solved (solvingRows task (now (rows .entry)) .outcome) ⌝ }
+    ensures lent { λ _. ⌜ now (rows .exit) ≡ solvingRows task (now (rows .entry)) .rows ⌝ }
+{
+    if no_mode(task.normalize) {
+        return unsolved_rows(rows.len(), task.normalize);
+    }
+    let got = lent::solve_rows(rows, task_of(task), task.allowance);
+    solved_of(got)
+}
+
+// The source's own entry, with a silent collector. It does not look at the allowance.
+#[no_mangle]
+pub extern "C" fn ravelsickle_lp_2d_incre_max_y(rows: &mut [f64], task: SolveTask) -> SourceSolved
+    ensures answer { λ s. ⌜ s ≡ source (silent (solvingSource task (now (rows .entry)) .outcome)) ⌝ }
+    ensures lent { λ _. ⌜ now (rows .exit) ≡ solvingSource task (now (rows .entry)) .rows ⌝ }
+{
+    if no_mode(task.normalize) {
+        return refused(refusal_of(rows, task));
+    }
+    let got = solve::lp_2d_incre_max_y(rows, task_of(task));
+    source_of(got)
 }

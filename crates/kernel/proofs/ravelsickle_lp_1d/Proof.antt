@@ -1,7 +1,7 @@
 -- `kernel::ravelsickle_lp_1d` meets its contract.
-use mathlib.Core.Path.{refl}
 use borrow.Author.Needs.{needs}
-use Rattle.kernel.specs.Kernel.{tolerances, highAfter, lowAfter, ofBounds}
+use Rattle.kernel.specs.Records.{bounded}
+use Rattle.kernel.specs.Kernel.{lineBounds}
 use Rattle.kernel.proofs.ravelsickle_lp_1d.Statement.{statement}
 use Rattle.kernel.proofs.ravelsickle_lp_1d.Tie as tie
 
@@ -14,14 +14,30 @@ enum-known-got c = search needs
 enum-known-got-2 : tie.Need-enum-known-got-2
 enum-known-got-2 c = search needs
 
+nan-requires : tie.Need-nan-requires
+nan-requires c κs = search needs
+
+nan-requires-2 : tie.Need-nan-requires-2
+nan-requires-2 c κs = search needs
+
 returns : tie.Need-returns
-unfolding tolerances highAfter lowAfter ofBounds
-returns c = rw (← c .before .before .before .lp-1d .ensures, c .before .got .given .1) (refl, (refl, refl))
+unfolding lineBounds bounded
+returns c =
+    rw (← c .before .before .before .lp-1d .ensures, c .before .got .given .1)
 
 returns-2 : tie.Need-returns-2
-unfolding tolerances highAfter lowAfter ofBounds
-returns-2 c = rw (← c .before .before .before .lp-1d .ensures, c .before .got2 .given .1) (refl, (refl, refl))
+unfolding lineBounds bounded
+returns-2 c =
+    rw (← c .before .before .before .before .before .lp-1d .ensures, c .before .before .before .got2 .given .1, c .before .nan .ensures, c .nan2 .ensures)
 
 pub ravelsickle-lp-1d-spec : {M : Type 1} → statement M
 ravelsickle-lp-1d-spec =
-    tie.close (tie.spec lp-1d-requires enum-known-got enum-known-got-2 returns returns-2)
+    tie.close
+    (tie.spec
+    lp-1d-requires
+    enum-known-got
+    enum-known-got-2
+    nan-requires
+    nan-requires-2
+    returns
+    returns-2)

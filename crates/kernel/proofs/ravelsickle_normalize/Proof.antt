@@ -1,6 +1,6 @@
 -- `kernel::ravelsickle_normalize` meets its contract.
 use borrow.Author.Needs.{needs}
-use Rattle.kernel.specs.Kernel.{ofNormalized}
+use Rattle.kernel.specs.Records.{ofNormalized}
 use Rattle.kernel.proofs.ravelsickle_normalize.Statement.{statement}
 use Rattle.kernel.proofs.ravelsickle_normalize.Tie as tie
 
@@ -18,14 +18,18 @@ same-length c = search needs
 
 returns : tie.Need-returns
 unfolding ofNormalized
-returns c = (rw (← c .before .before .before .before .normalize-lp2d .ensures .0, c .enum-told .given .1), c .before .before .before .before .normalize-lp2d .ensures .1)
+returns c =
+    let call = c .before .before .before .before .normalize-lp2d .ensures in
+    (rw (← call .0, c .enum-told .given .1), call .1)
 
 same-length-2 : tie.Need-same-length-2
 same-length-2 c = search needs
 
 returns-2 : tie.Need-returns-2
 unfolding ofNormalized
-returns-2 c = (rw (← c .before .before .before .before .before .normalize-lp2d .ensures .0, c .before .got .given .1), c .before .before .before .before .before .normalize-lp2d .ensures .1)
+returns-2 c =
+    let call = c .before .before .before .before .before .normalize-lp2d .ensures in
+    (rw (← call .0, c .before .got .given .1), call .1)
 
 pub ravelsickle-normalize-spec : {M : Type 1} → statement M
 ravelsickle-normalize-spec =

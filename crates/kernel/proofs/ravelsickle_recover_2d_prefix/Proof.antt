@@ -1,7 +1,6 @@
 -- `kernel::ravelsickle_recover_2d_prefix` meets its contract.
-use mathlib.Core.Path.{refl}
 use borrow.Author.Needs.{needs}
-use Rattle.kernel.specs.Kernel.{point, frame, ofRecovered, recoveredAt, recoveredOn}
+use Rattle.kernel.specs.Kernel.{recovered, recovery}
 use Rattle.kernel.proofs.ravelsickle_recover_2d_prefix.Statement.{statement}
 use Rattle.kernel.proofs.ravelsickle_recover_2d_prefix.Tie as tie
 
@@ -14,30 +13,38 @@ recover-2d-prefix-requires c κs = search needs
 enum-known-got : tie.Need-enum-known-got
 enum-known-got c = search needs
 
-enum-known-got-2 : tie.Need-enum-known-got-2
-enum-known-got-2 c = search needs
-
 held-requires : tie.Need-held-requires
 held-requires c κs = search needs
 
-put-active-requires : tie.Need-put-active-requires
-put-active-requires c κs = search needs
+recovered-at-requires : tie.Need-recovered-at-requires
+recovered-at-requires c κs = search needs
+
+enum-known-got-2 : tie.Need-enum-known-got-2
+enum-known-got-2 c = search needs
+
+nan-requires : tie.Need-nan-requires
+nan-requires c κs = search needs
+
+nan-requires-2 : tie.Need-nan-requires-2
+nan-requires-2 c κs = search needs
+
+recovered-at-requires-2 : tie.Need-recovered-at-requires-2
+recovered-at-requires-2 c κs = search needs
 
 returns : tie.Need-returns
-unfolding point frame ofRecovered recoveredAt recoveredOn
+unfolding recovery recovered
 returns c =
-    let coll = c .before .before .before .before .collector-of .ensures in
-    let call = c .before .before .before .recover-2d-prefix .ensures in
-    let told = c .before .got .given .1 in
-    rw (← coll, ← call, told) (refl, (refl, refl))
+    let told = c .before .before .before in
+    let call = told .before .before in
+    rw (← call .before .collector-of .ensures, ← call .recover-2d-prefix .ensures, told .got .given .1, ← c .before .held .ensures) (c .recovered-at .ensures)
 
 returns-2 : tie.Need-returns-2
-unfolding point frame ofRecovered recoveredAt recoveredOn
+unfolding recovery recovered
 returns-2 c =
-    let coll = c .before .before .before .before .before .before .before .before .before .before .collector-of .ensures in
-    let call = c .before .before .before .before .before .before .before .before .before .recover-2d-prefix .ensures in
-    let told = c .before .before .before .before .before .before .before .got2 .given .1 in
-    rw (← coll, ← call, told, ← c .before .before .before .before .before .held .ensures) (refl, (refl, c .put-active .ensures))
+    let told = c .before .before .before .before in
+    let call = told .before .before in
+    let back = rw (c .before .before .nan .ensures, c .before .nan2 .ensures) at (c .recovered-at2 .ensures) in
+    rw (← call .before .collector-of .ensures, ← call .recover-2d-prefix .ensures, told .got2 .given .1) back
 
 pub ravelsickle-recover-2d-prefix-spec : {M : Type 1} → statement M
 ravelsickle-recover-2d-prefix-spec =
@@ -46,8 +53,11 @@ ravelsickle-recover-2d-prefix-spec =
     collector-of-requires
     recover-2d-prefix-requires
     enum-known-got
-    enum-known-got-2
     held-requires
-    put-active-requires
+    recovered-at-requires
+    enum-known-got-2
+    nan-requires
+    nan-requires-2
+    recovered-at-requires-2
     returns
     returns-2)

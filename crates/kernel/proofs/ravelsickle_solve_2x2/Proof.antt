@@ -1,7 +1,6 @@
 -- `kernel::ravelsickle_solve_2x2` meets its contract.
-use mathlib.Core.Path.{refl}
 use borrow.Author.Needs.{needs}
-use Rattle.kernel.specs.Kernel.{row, point, crossed, ofCrossing}
+use Rattle.kernel.specs.Records.{crossed}
 use Rattle.kernel.proofs.ravelsickle_solve_2x2.Statement.{statement}
 use Rattle.kernel.proofs.ravelsickle_solve_2x2.Tie as tie
 
@@ -14,14 +13,30 @@ enum-known-got c = search needs
 enum-known-got-2 : tie.Need-enum-known-got-2
 enum-known-got-2 c = search needs
 
+nan-requires : tie.Need-nan-requires
+nan-requires c κs = search needs
+
+nan-requires-2 : tie.Need-nan-requires-2
+nan-requires-2 c κs = search needs
+
 returns : tie.Need-returns
-unfolding row point crossed ofCrossing
-returns c = rw (← c .before .before .before .solve-2x2 .ensures, c .before .got .given .1) (refl, refl)
+unfolding crossed
+returns c =
+    rw (← c .before .before .before .solve-2x2 .ensures, c .before .got .given .1)
 
 returns-2 : tie.Need-returns-2
-unfolding row point crossed ofCrossing
-returns-2 c = rw (← c .before .before .before .solve-2x2 .ensures, c .before .got2 .given .1) (refl, refl)
+unfolding crossed
+returns-2 c =
+    rw (← c .before .before .before .before .before .solve-2x2 .ensures, c .before .before .before .got2 .given .1, c .before .nan .ensures, c .nan2 .ensures)
 
 pub ravelsickle-solve-2x2-spec : {M : Type 1} → statement M
 ravelsickle-solve-2x2-spec =
-    tie.close (tie.spec solve-2x2-requires enum-known-got enum-known-got-2 returns returns-2)
+    tie.close
+    (tie.spec
+    solve-2x2-requires
+    enum-known-got
+    enum-known-got-2
+    nan-requires
+    nan-requires-2
+    returns
+    returns-2)

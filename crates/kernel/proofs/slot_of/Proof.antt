@@ -1,5 +1,5 @@
 -- `kernel::slot_of` meets its contract.
-use Rattle.kernel.specs.Kernel.{slot}
+use Rattle.kernel.specs.Records.{slot}
 use Rattle.kernel.proofs.slot_of.Statement.{statement}
 use Rattle.kernel.proofs.slot_of.Tie as tie
 

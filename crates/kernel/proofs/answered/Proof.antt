@@ -1,10 +1,8 @@
--- `kernel::put_answer` meets its contract.
-use mathlib.Core.Path.{refl}
+-- `kernel::answered` meets its contract.
 use borrow.Author.Needs.{needs}
-use Rattle.solve.specs.Solve.{values}
-use Rattle.kernel.specs.Kernel.{point, kindOf}
-use Rattle.kernel.proofs.put_answer.Statement.{statement}
-use Rattle.kernel.proofs.put_answer.Tie as tie
+use Rattle.kernel.specs.Records.{answered}
+use Rattle.kernel.proofs.answered.Statement.{statement}
+use Rattle.kernel.proofs.answered.Tie as tie
 
 enum-known-a : tie.Need-enum-known-a
 enum-known-a c = search needs
@@ -31,23 +29,27 @@ nan-requires-4 : tie.Need-nan-requires-4
 nan-requires-4 c κs = search needs
 
 returns : tie.Need-returns
-unfolding values kindOf point
-returns c = rw (c .before .a .given .1) (refl, refl)
+unfolding answered
+returns c =
+    rw (c .before .a .given .1)
 
 returns-2 : tie.Need-returns-2
-unfolding values kindOf point
-returns-2 c = rw (c .before .before .a2 .given .1, c .nan .ensures) (refl, refl)
+unfolding answered
+returns-2 c =
+    rw (c .before .before .a2 .given .1, c .nan .ensures)
 
 returns-3 : tie.Need-returns-3
-unfolding values kindOf point
-returns-3 c = rw (c .before .before .a3 .given .1, c .nan2 .ensures) (refl, refl)
+unfolding answered
+returns-3 c =
+    rw (c .before .before .a3 .given .1, c .nan2 .ensures)
 
 returns-4 : tie.Need-returns-4
-unfolding values kindOf point
-returns-4 c = rw (c .before .before .enum-told .given .1, c .nan4 .ensures, c .before .nan3 .ensures) (refl, refl)
+unfolding answered
+returns-4 c =
+    rw (c .before .before .enum-told .given .1, c .nan4 .ensures, c .before .nan3 .ensures)
 
-pub put-answer-spec : {M : Type 1} → statement M
-put-answer-spec =
+pub answered-spec : {M : Type 1} → statement M
+answered-spec =
     tie.close
     (tie.spec
     enum-known-a

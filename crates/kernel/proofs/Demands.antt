@@ -1,0 +1,162 @@
+-- What is said of the entries in words and is no equation of their contracts: that a row's flag is true exactly where there is a row, and when refusal 10 is
+-- given and what it leaves. Of a task t and the floats or rows lent the entries answer `solved (solving t flat .outcome)`,
+-- `solved (solvingRows t rows .outcome)` and `source (silent (solvingSource t flat .outcome))`.
+use mathlib.Core.Path.{_≡_, refl}
+use mathlib.Core.Bool.{Bool, true, false, not}
+use mathlib.Core.Logic.{_↔_}
+use mathlib.Core.List.{List}
+use Prim.Native.Nat.{ℕ, _/_, _%_, _≤_, _<_}
+use native.Mathlib.Omega.{arith}
+use borrow.Author.Tests.{eq-eqb, eqb-true, eqb-false, lt-ltb, le-ltb, ltb-true, ltb-false}
+use lib.Dec.{eqb, ltb}
+use lib.ListN.{length}
+use lib.Ieee.{Float}
+use Rattle.float.specs.Operators.{if_then_else_}
+use Rattle.rows.specs.Constants.{mostRows}
+use Rattle.rows.specs.declared.Row.{Row}
+use Rattle.rows.specs.Rows.{rowsOf, flatOf, refusal}
+use Rattle.rows.proofs.Lengths.{length-flatOf}
+use Rattle.rows.proofs.Refusals.{taken}
+use Rattle.line.specs.declared.Slot.{Slot}
+use Rattle.line.specs.declared.Slot.the-variants.{NoRow, Holds}
+use Rattle.line.specs.declared.Active.{Active}
+use Rattle.solve.specs.declared.Task.{Task}
+use Rattle.solve.specs.declared.Answer.{Answer}
+use Rattle.solve.specs.declared.Answer.the-variants as answer-is
+use Rattle.solve.specs.declared.Outcome.{Outcome}
+use Rattle.solve.specs.declared.Outcome.the-variants.{Answered, Stopped, Refused}
+use Rattle.solve.specs.Solve as Solve
+use Rattle.solve.specs.Solve.{Ended, allSolves, count, number, silent, solve, lp2dIncreMaxY}
+use Rattle.solve.proofs.Demands as of-floats
+use Rattle.lent.proofs.Demands.{rows-of-floats}
+use Rattle.kernel.specs.declared.SolveTask.{SolveTask}
+use Rattle.kernel.specs.Records.{hasRow, rowNumber, refused, withRows, unsolved, answered, solved, source}
+use Rattle.kernel.specs.Kernel.{task, noMode, orTen, refusalOf, unlessRefused, solving, solvingRows, solvingSource}
+
+-- ---- "no row" is never a number: a flag is true exactly where there is a row, whose number then stands beside it
+
+flag-tells : (s : Slot) → hasRow s ≡ true ↔ s ≡ Holds (rowNumber s)
+unfolding hasRow rowNumber
+flag-tells NoRow = (λ e. cc, λ e. cc)
+flag-tells (Holds k) = (λ e. refl, λ e. refl)
+
+module _ (a : Answer) (act : Active) (n : ℕ) where
+  pub first-flag : solved (Answered a act n) .«has_first» ≡ true ↔ act .first ≡ Holds (solved (Answered a act n) .first)
+  unfolding solved withRows
+  first-flag = flag-tells (act .first)
+
+  pub second-flag : solved (Answered a act n) .«has_second» ≡ true ↔ act .second ≡ Holds (solved (Answered a act n) .second)
+  unfolding solved withRows
+  second-flag = flag-tells (act .second)
+
+-- ---- the numbers of refusals
+
+answer-has-none : (a : Answer) → answered a .refusal ≡ 0
+unfolding answered
+answer-has-none (answer-is.Point x y) = refl
+answer-has-none (answer-is.Level y) = refl
+answer-has-none (answer-is.Across x) = refl
+answer-has-none answer-is.Nothing = refl
+
+solved-number : (o : Outcome) → solved o .refusal ≡ number o
+unfolding solved unsolved withRows refused number
+solved-number (Answered a act n) = answer-has-none a
+solved-number (Stopped k n) = refl
+solved-number (Refused k) = refl
+
+source-number : (o : Outcome) → source (silent o) .refusal ≡ number o
+unfolding source silent refused number
+source-number (Answered a act n) = answer-has-none a
+source-number (Stopped k n) = refl
+source-number (Refused k) = refl
+
+-- the solves by themselves give none above 3
+floats-below : (floats : ℕ) → refusal 3 floats < 3
+unfolding refusal if_then_else_
+floats-below floats = by-tests (eqb (floats % 3) 0) (ltb mostRows (floats / 3))
+  where
+    by-tests : (even many : Bool) → (if not even then 1 else if many then 2 else 0) < 3
+    by-tests false many = omega arith
+    by-tests true true = omega arith
+    by-tests true false = omega arith
+
+module _ (T : Task) (flat : List Float) where
+  own-below : Solve.refusalOf T flat < 3
+  unfolding Solve.refusalOf
+  own-below = floats-below (length flat)
+
+  lp2d-below : number (lp2dIncreMaxY T flat .outcome) < 4
+  unfolding number Solve.refusalOf
+  lp2d-below = by-test (eqb (refusal 3 (length flat)) 0) refl
+    where
+      by-test : (b : Bool) → eqb (refusal 3 (length flat)) 0 ≡ b → number (lp2dIncreMaxY T flat .outcome) < 4
+      by-test true p = rw (of-floats.answers T flat (eqb-true _ 0 p) .2) (omega arith)
+      by-test false p = rw (of-floats.refuses-alike T flat (eqb-false _ 0 p)) (omega (arith, floats-below (length flat)))
+
+  solve-below : (A : ℕ) → number (solve T A flat .outcome) < 4
+  unfolding number Solve.refusalOf
+  solve-below A = by-test (ltb A (count (allSolves T (rowsOf flat)))) refl
+    where
+      by-test : (b : Bool) → ltb A (count (allSolves T (rowsOf flat))) ≡ b → number (solve T A flat .outcome) < 4
+      by-test true p = by-refusal (eqb (refusal 3 (length flat)) 0) refl
+        where
+          by-refusal : (b : Bool) → eqb (refusal 3 (length flat)) 0 ≡ b → number (solve T A flat .outcome) < 4
+          by-refusal true q = rw (of-floats.stops T flat A (eqb-true _ 0 q) (ltb-true A _ p)) (omega arith)
+          by-refusal false q = rw (of-floats.refuses T flat A (eqb-false _ 0 q)) (omega (arith, floats-below (length flat)))
+      by-test false p = rw (of-floats.finishes T flat A (ltb-false A _ p)) lp2d-below
+
+-- ---- refusal 10 is given exactly where neither 1 nor 2 is and the task's number is above 1, and leaves the rows as they were
+
+module _ (t : SolveTask) (flat : List Float) where
+  abbrev Ten : Type 0
+  Ten = (length flat % 3 ≡ 0) × (length flat / 3 ≤ mostRows) × (1 < t .normalize)
+
+  own-none : Solve.refusalOf (task t) flat ≡ 0 ↔ (length flat % 3 ≡ 0) × (length flat / 3 ≤ mostRows)
+  unfolding Solve.refusalOf refusal if_then_else_
+  own-none = (λ e. taken 3 (length flat) e, λ h. rw (eq-eqb _ 0 (h .0), le-ltb mostRows _ (h .1)))
+
+  ten-is : refusalOf t flat ≡ 10 ↔ Ten
+  unfolding refusalOf orTen noMode if_then_else_
+  ten-is = (by-test (eqb own 0) (ltb 1 (t .normalize)) refl refl, λ h. rw (own-none .1 (h .0, h .1), lt-ltb 1 (t .normalize) (h .2)))
+    where
+      own : ℕ
+      own = Solve.refusalOf (task t) flat
+
+      by-test : (none ten : Bool) → eqb own 0 ≡ none → ltb 1 (t .normalize) ≡ ten → (if not none then own else if ten then 10 else 0) ≡ 10 → Ten
+      by-test true true p q e = let fits = own-none .0 (eqb-true own 0 p) in (fits .0, fits .1, ltb-true 1 (t .normalize) q)
+      by-test true false p q e = absurd (omega arith)
+      by-test false ten p q e = absurd (omega (arith, own-below (task t) flat))
+
+  abbrev as-it-was : Ended (List Float)
+  as-it-was = record { outcome = Refused (refusalOf t flat); rows = flat }
+
+  exactly : (e : Ended (List Float)) → number (e .outcome) < 4
+      → (number (unlessRefused t flat e .outcome) ≡ 10 ↔ Ten) × (Ten → unlessRefused t flat e .rows ≡ flat)
+  unfolding unlessRefused if_then_else_ number
+  exactly e below = ((λ h. ten-is .0 (by-test (eqb (refusalOf t flat) 0) refl h), λ h. rw (ten-is .1 h)), λ h. rw (ten-is .1 h))
+    where
+      by-test : (b : Bool) → eqb (refusalOf t flat) 0 ≡ b → number ((if b then e else as-it-was) .outcome) ≡ 10 → refusalOf t flat ≡ 10
+      by-test true p h = absurd (omega (arith, below))
+      by-test false p h = h
+
+  pub ten-exactly : (solved (solving t flat .outcome) .refusal ≡ 10 ↔ Ten) × (Ten → solving t flat .rows ≡ flat)
+  unfolding solving
+  ten-exactly = rw (solved-number (solving t flat .outcome)) (exactly (solve (task t) (t .allowance) flat) (solve-below (task t) flat (t .allowance)))
+
+  pub source-ten-exactly : (source (silent (solvingSource t flat .outcome)) .refusal ≡ 10 ↔ Ten) × (Ten → solvingSource t flat .rows ≡ flat)
+  unfolding solvingSource
+  source-ten-exactly = rw (source-number (solvingSource t flat .outcome)) (exactly (lp2dIncreMaxY (task t) flat) (lp2d-below (task t) flat))
+
+module _ (t : SolveTask) (rows : List Row) where
+  abbrev TenRows : Type 0
+  TenRows = (length rows ≤ mostRows) × (1 < t .normalize)
+
+  as-floats : TenRows → Ten t (flatOf rows)
+  as-floats h = (omega (arith, length-flatOf rows), omega (arith, length-flatOf rows), h .1)
+
+  pub rows-ten-exactly : (solved (solvingRows t rows .outcome) .refusal ≡ 10 ↔ TenRows) × (TenRows → solvingRows t rows .rows ≡ rows)
+  unfolding solvingRows
+  rows-ten-exactly =
+      let flat = ten-exactly t (flatOf rows) in
+      let given : solved (solving t (flatOf rows) .outcome) .refusal ≡ 10 → TenRows = λ e. let h = flat .0 .0 e in (omega (arith, length-flatOf rows), h .2) in
+      ((given, λ h. flat .0 .1 (as-floats h)), λ h. rw (flat .1 (as-floats h)) (rows-of-floats rows))

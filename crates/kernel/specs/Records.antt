@@ -1,0 +1,105 @@
+-- What crosses to C as records: "no row" as a flag, an answer's kind as a number, and a value for every field. A coordinate or an end that an answer
+-- does not have, or that is refused, is NaN. Assumes nothing.
+use Prim.Native.Nat.{ℕ}
+use mathlib.Core.Bool.{Bool, true, false}
+use lib.Ieee.{nan}
+use Rattle.rows.specs.declared.Point.{Point}
+use Rattle.rows.specs.declared.Normalized.{Normalized}
+use Rattle.rows.specs.declared.Normalized.the-variants as normalized-is
+use Rattle.rows.specs.declared.Crossing.{Crossing}
+use Rattle.rows.specs.declared.Crossing.the-variants as crossing-is
+use Rattle.line.specs.declared.Slot.{Slot}
+use Rattle.line.specs.declared.Slot.the-variants.{NoRow, Holds}
+use Rattle.line.specs.declared.Active.{Active}
+use Rattle.line.specs.declared.Bounds.{Bounds}
+use Rattle.line.specs.declared.Bounds.the-variants as bounds-is
+use Rattle.line.specs.Active.{noRows}
+use Rattle.solve.specs.declared.Answer.{Answer}
+use Rattle.solve.specs.declared.Answer.the-variants as answer-is
+use Rattle.solve.specs.declared.Outcome.{Outcome}
+use Rattle.solve.specs.declared.Outcome.the-variants as outcome-is
+use Rattle.solve.specs.declared.Solution.{Solution}
+use Rattle.solve.specs.declared.Solution.the-variants as solution-is
+use Rattle.kernel.specs.declared.Solved.{Solved}
+use Rattle.kernel.specs.declared.SourceSolved.{SourceSolved}
+use Rattle.kernel.specs.declared.Crossed.{Crossed}
+use Rattle.kernel.specs.declared.LineBounds.{LineBounds}
+use Rattle.kernel.specs.declared.RecoveredPoint.{RecoveredPoint}
+
+-- ---- a row or no row
+
+-- a flag that is false is no row, whatever the number
+unfoldable pub slot : Bool → ℕ → Slot
+slot false k = NoRow
+slot true k = Holds k
+
+unfoldable pub hasRow : Slot → Bool
+hasRow NoRow = false
+hasRow (Holds k) = true
+
+unfoldable pub rowNumber : Slot → ℕ
+rowNumber NoRow = 0
+rowNumber (Holds k) = k
+
+-- ---- what a solve answers
+
+unfoldable pub answered : Answer → SourceSolved
+answered (answer-is.Point x y) = record { refusal = 0; kind = 1; x = x; y = y }
+answered (answer-is.Level y) = record { refusal = 0; kind = 2; x = nan; y = y }
+answered (answer-is.Across x) = record { refusal = 0; kind = 3; x = x; y = nan }
+answered answer-is.Nothing = record { refusal = 0; kind = 4; x = nan; y = nan }
+
+unfoldable pub refused : ℕ → SourceSolved
+refused number = record { refusal = number; kind = 0; x = nan; y = nan }
+
+unfoldable pub withRows : SourceSolved → ℕ → Active → Solved
+withRows s count act =
+    record {
+      refusal = s .refusal;
+      kind = s .kind;
+      x = s .x;
+      y = s .y;
+      count = count;
+      first = rowNumber (act .first);
+      second = rowNumber (act .second);
+      «has_first» = hasRow (act .first);
+      «has_second» = hasRow (act .second);
+    }
+
+unfoldable pub unsolved : ℕ → ℕ → Solved
+unsolved number count = withRows (refused number) count noRows
+
+unfoldable pub solved : Outcome → Solved
+solved (outcome-is.Answered a act n) = withRows (answered a) n act
+solved (outcome-is.Stopped number n) = unsolved number n
+solved (outcome-is.Refused number) = unsolved number 0
+
+unfoldable pub source : Solution → SourceSolved
+source (solution-is.Answered a) = answered a
+source (solution-is.Refused number) = refused number
+
+-- ---- what the other entries answer
+
+unfoldable pub ofNormalized : Normalized → ℕ
+ofNormalized normalized-is.Done = 0
+ofNormalized (normalized-is.Refused number) = number
+
+unfoldable pub crossed : Crossing → Crossed
+crossed (crossing-is.At p) = record { refusal = 0; x = p .x; y = p .y }
+crossed (crossing-is.Refused number) = record { refusal = number; x = nan; y = nan }
+
+unfoldable pub bounded : Bounds → LineBounds
+bounded (bounds-is.Between high low) = record { refusal = 0; high = high; low = low }
+bounded (bounds-is.Refused number) = record { refusal = number; high = nan; low = nan }
+
+unfoldable pub recoveredAt : ℕ → Point → Active → RecoveredPoint
+recoveredAt number p act =
+    record {
+      refusal = number;
+      x = p .x;
+      y = p .y;
+      first = rowNumber (act .first);
+      second = rowNumber (act .second);
+      «has_first» = hasRow (act .first);
+      «has_second» = hasRow (act .second);
+    }
