@@ -4,17 +4,20 @@
  *
  * Link the static library that `rt staticlib kernel` writes (target/staticlib/libkernel.a, for x86-64). It calls C's
  * memset and nothing else, allocates nothing and keeps nothing between calls, so that threads may call it at once on
- * memory of their own.
+ * rows of their own.
+ *
+ * One convention for every entry: rows are lent, and may be changed in place; everything else goes in by value, in one
+ * record where it is more than a number or two; and what comes back is a record by value, whose first number is the
+ * refusal's, 0 where there is none (root and fused, which refuse nothing, give their number; normalising gives its
+ * refusal alone). Every number of such a record has a value after every call: what an answer does not have, or a refusal
+ * says nothing of, is NaN for a coordinate or an end and 0 for anything else.
  *
  * What every entry asks of C, since C cannot say it in a type:
  *   - no pointer is null, also where it leads to no floats;
- *   - no two pointers of one call lead to the same memory;
- *   - what a pointer leads to has a value before the call, since a refusal leaves it as it is;
  *   - the floating-point unit rounds to nearest and keeps subnormal numbers, as it does unless a program changes it
  *     (linking with -ffast-math does).
  *
- * Every entry but root and fused returns 0, or the number of its refusal (enum ravelsickle_refusal). "No row" is never a
- * number: a flag says whether there is a row, and without one the row's number is not written.
+ * "No row" is never a number: a flag says whether there is a row, and without it the row's number says nothing.
  */
 #ifndef RAVELSICKLE_H
 #define RAVELSICKLE_H
@@ -33,12 +36,12 @@ extern "C" {
 /* A start level that means "beyond the set": a solve that begins there may move up to the edge of a larger box. */
 #define RAVELSICKLE_BEYOND 1e6
 
-/* What an entry returns. The numbers are those of the refusals; 0 is no refusal. */
+/* Why an entry gives no answer; 0 is no refusal. */
 enum ravelsickle_refusal {
     RAVELSICKLE_DONE = 0,
-    /* The floats lent are no whole rows (3 to a row), or no whole pairs (2 to a pair). Everything lent is unchanged. */
+    /* The floats lent are no whole rows (3 to a row), or no whole pairs (2 to a pair). Rows are unchanged. */
     RAVELSICKLE_NOT_WHOLE = 1,
-    /* More than RAVELSICKLE_ROW_LIMIT rows or pairs. Everything lent is unchanged. */
+    /* More than RAVELSICKLE_ROW_LIMIT rows or pairs. Rows are unchanged. */
     RAVELSICKLE_TOO_MANY = 2,
     /* The solve needs more readings than its allowance. See ravelsickle_solve for what it leaves. */
     RAVELSICKLE_STOPPED = 3,
@@ -49,20 +52,93 @@ enum ravelsickle_refusal {
     /* Recovery found no point. */
     RAVELSICKLE_NOT_RECOVERED = 6,
     /* The prefix to recover is longer than the rows. */
-    RAVELSICKLE_PREFIX_TOO_LONG = 7
+    RAVELSICKLE_PREFIX_TOO_LONG = 7,
+    /* The task's number for normalising names no mode. Rows are unchanged. */
+    RAVELSICKLE_NO_SUCH_MODE = 10
+};
+
+/* How a solve normalises the lent rows, before each of its up to seven rounds. */
+enum ravelsickle_normalize {
+    RAVELSICKLE_NORMALIZE_OFF = 0,
+    RAVELSICKLE_NORMALIZE_SOURCE = 1 /* as ravelsickle_normalize does, in place */
 };
 
 /* Which of its two numbers an answer has. The number that it does not have is NaN. An infinite number is a number. */
 enum ravelsickle_kind {
-    RAVELSICKLE_POINT = 0,  /* x and y */
-    RAVELSICKLE_LEVEL = 1,  /* y alone: x is free */
-    RAVELSICKLE_ACROSS = 2, /* x alone */
-    RAVELSICKLE_NOTHING = 3 /* neither */
+    RAVELSICKLE_UNANSWERED = 0, /* refused */
+    RAVELSICKLE_POINT = 1,      /* x and y */
+    RAVELSICKLE_LEVEL = 2,      /* y alone: x is free */
+    RAVELSICKLE_ACROSS = 3,     /* x alone */
+    RAVELSICKLE_NOTHING = 4     /* neither */
 };
 
 /* The half-plane a*x + b*y <= c. An array of rows is the same memory as their floats one after another. */
 struct ravelsickle_row {
     double a, b, c;
+};
+
+/* What to solve, and how. */
+struct ravelsickle_task {
+    double feasibility; /* by how much a point may violate a row (the original's usual: 1e-9) */
+    double scale;       /* what multiplies it in a reduction to one dimension (usual: 10) */
+    double x0, y0;      /* where to start (without knowledge: 0 and RAVELSICKLE_BEYOND) */
+    size_t skip;        /* how many leading rows the start is known to meet (without knowledge: 0) */
+    uint64_t normalize; /* one of enum ravelsickle_normalize; any other number is refusal 10 */
+    uint64_t allowance; /* the most row readings that may be taken */
+};
+
+/* What a solve answers. A row's number means something only where its flag is true. */
+struct ravelsickle_answer {
+    uint64_t refusal; /* 0, 1, 2, 3 or 10 */
+    uint64_t kind;    /* one of enum ravelsickle_kind */
+    double x, y;
+    uint64_t count;       /* the row readings taken */
+    size_t first, second; /* the active rows, counted from 0 */
+    bool has_first, has_second;
+};
+
+/* What the original's own entry answers. */
+struct ravelsickle_solution {
+    uint64_t refusal; /* 0, 1, 2 or 10 */
+    uint64_t kind;
+    double x, y;
+};
+
+/* The point on two boundaries. */
+struct ravelsickle_crossing {
+    uint64_t refusal; /* 0 or 5 */
+    double x, y;
+};
+
+/* How pairs are taken together. `scale` is not used; it is there since the original takes both tolerances. */
+struct ravelsickle_line_task {
+    double feasibility, scale;
+    bool autonan;
+};
+
+/* The ends of a line. */
+struct ravelsickle_bounds {
+    uint64_t refusal; /* 0, 1 or 2 */
+    double high, low;
+};
+
+/* What to recover. The flags and row numbers are the collector, the active rows of the caller. */
+struct ravelsickle_recovery_task {
+    size_t upto;    /* how many leading rows the point must hold for */
+    double x0, y0;  /* where a solve's usual step failed */
+    double bound;   /* half the width of the box that the problem is posed over */
+    double epsilon; /* by how much a point may violate a row */
+    double reduced; /* the same in a reduction to one dimension */
+    size_t first, second;
+    bool has_first, has_second;
+};
+
+/* What recovery answers, with the collector afterwards. */
+struct ravelsickle_recovered {
+    uint64_t refusal; /* 0, 1, 2, 7 or 6 */
+    double x, y;
+    size_t first, second;
+    bool has_first, has_second;
 };
 
 /* The square root of x, rounded once, to nearest. NaN for a number below zero; -0 for -0. */
@@ -73,103 +149,53 @@ double ravelsickle_fused(double x, double y, double z);
 
 /*
  * Scales the rows in place, so that each has a unit normal. A row whose norm is zero or not finite becomes zeros.
- * Refusals: 1 and 2, which leave the rows unchanged.
+ * Gives 0, or refusal 1 or 2, which leave the rows unchanged.
  */
 uint64_t ravelsickle_normalize(double *rows, size_t floats);
 
-/*
- * The point at which a0*x + b0*y = c0 and a1*x + b1*y = c1.
- * Refusal: 5, which leaves x and y unchanged.
- */
-uint64_t ravelsickle_solve_2x2(double a0, double b0, double c0, double a1, double b1, double c1, double *x, double *y);
+/* The point at which both rows hold with equality. Refusal: 5. */
+struct ravelsickle_crossing ravelsickle_solve_2x2(struct ravelsickle_row r, struct ravelsickle_row s);
 
 /*
  * The highest and the lowest t with a*t <= b for every pair (a, b); infinite where no pair bounds it. Both are NaN where
  * a pair without a coefficient has b below -feasibility. With autonan a high below the low is settled: both become the
- * middle where they are within the tolerance of each other, else NaN. `scale` is not used; it is there since the
- * original takes both tolerances.
- * Refusals: 1 and 2, which leave high and low unchanged.
+ * middle where they are within the tolerance of each other, else NaN.
+ * Refusals: 1, 2.
  */
-uint64_t ravelsickle_lp_1d(const double *pairs, size_t floats, bool autonan, double feasibility, double scale,
-                           double *high, double *low);
+struct ravelsickle_bounds ravelsickle_lp_1d(const double *pairs, size_t floats, struct ravelsickle_line_task task);
 
 /*
  * The highest y under the rows, with the rows that hold it and the number of row readings it took.
  *
- * feasibility  by how much a point may violate a row (the original's usual: 1e-9)
- * scale        what multiplies it in a reduction to one dimension (usual: 10)
- * x0, y0       where to start (without knowledge: 0 and RAVELSICKLE_BEYOND)
- * skip         how many leading rows the start is known to meet (without knowledge: 0)
- * normalize    whether each of the up to seven solves first normalises the rows, in place
- * allowance    the most row readings that may be taken
- *
- * On 0: kind is one of enum ravelsickle_kind, x and y are as it says; has_first and has_second say whether there is a
- * first and a second active row, first and second are written where there is one; count is the readings taken.
- * Refusals 1 and 2 leave everything unchanged. Refusal 3 (and 4, which is never given) sets has_first and has_second to
- * false and writes count, which for 3 is the allowance; kind, x, y, first and second are unchanged; the rows are as after
- * the last normalisation all of whose readings fitted.
+ * Refusals, in this order: 1, 2, 10, 3. The first three leave the rows unchanged and have count 0. Refusal 3 has the
+ * allowance as its count and no active rows; it leaves the rows as after the last normalisation all of whose readings
+ * fitted.
  */
-uint64_t ravelsickle_solve(double *rows, size_t floats, double feasibility, double scale, double x0, double y0,
-                           size_t skip, bool normalize, uint64_t allowance, uint64_t *kind, double *x, double *y,
-                           bool *has_first, size_t *first, bool *has_second, size_t *second, uint64_t *count);
-
-/* What came back. A row's number means something only where its flag is true. */
-struct ravelsickle_answer {
-    uint64_t kind;
-    double x;
-    double y;
-    bool has_first;
-    size_t first;
-    bool has_second;
-    size_t second;
-    uint64_t count;
-};
+struct ravelsickle_answer ravelsickle_solve(double *rows, size_t floats, struct ravelsickle_task task);
 
 /*
- * ravelsickle_solve over an array of rows, with what it answers in a record: on 0 and on each refusal `answer` holds what
- * ravelsickle_solve would leave in the numbers of the same names. Refusal 1 cannot come. The rows are copied and copied
- * back, by way of 96 KiB of stack; ravelsickle_solve takes the same memory as it is, with &rows->a and 3 * rows_count.
+ * ravelsickle_solve over an array of rows: the same answers, and the same is left in the rows. Refusal 1 cannot come. The
+ * rows are copied and copied back, by way of 96 KiB of stack; ravelsickle_solve takes the same memory as it is, with
+ * &rows->a and 3 * rows_count.
  */
-uint64_t ravelsickle_solve_rows(struct ravelsickle_row *rows, size_t rows_count, double feasibility, double scale,
-                                double x0, double y0, size_t skip, bool normalize, uint64_t allowance,
-                                struct ravelsickle_answer *answer);
+struct ravelsickle_answer ravelsickle_solve_rows(struct ravelsickle_row *rows, size_t rows_count,
+                                                 struct ravelsickle_task task);
 
 /*
- * The original's own entry: the same answer, without an allowance, active rows or count.
- * Refusals: 1 and 2, which leave everything unchanged.
+ * The original's own entry: the same answer, without active rows or count. The task's allowance is not looked at.
+ * Refusals: 1, 2, 10, which leave the rows unchanged.
  */
-uint64_t ravelsickle_lp_2d_incre_max_y(double *rows, size_t floats, double feasibility, double scale, double x0,
-                                       double y0, size_t skip, bool normalize, uint64_t *kind, double *x, double *y);
+struct ravelsickle_solution ravelsickle_lp_2d_incre_max_y(double *rows, size_t floats, struct ravelsickle_task task);
 
 /*
  * A point that holds for the first `upto` rows, after a solve's usual step failed at (x0, y0).
  *
- * bound     half the width of the box that the problem is posed over
- * epsilon   by how much a point may violate a row
- * reduced   the same in a reduction to one dimension
- *
- * The flags and row numbers are the collector, the active rows of the caller. They go in and come out, so all four need
- * a value before the call.
- * On 0: x and y are the point; the collector holds its active rows, or is unchanged where the point is (x0, y0) itself
- * and no row's boundary gave one.
- * Refusals, in this order: 1, 2, 7, 6. Each leaves x, y and the collector unchanged.
+ * With no refusal the collector that comes back holds the point's active rows, or is the one given where the point is
+ * (x0, y0) itself and no row's boundary gave one. A refusal gives back the collector that was given.
+ * Refusals, in this order: 1, 2, 7, 6.
  */
-uint64_t ravelsickle_recover_2d_prefix(const double *rows, size_t floats, size_t upto, double x0, double y0,
-                                       double bound, double epsilon, double reduced, double *x, double *y,
-                                       bool *has_first, size_t *first, bool *has_second, size_t *second);
-
-/* ---- The same solve with its task in a record ---- */
-
-/* What to solve, and how. */
-struct ravelsickle_task {
-    double feasibility;
-    double scale;
-    double x0;
-    double y0;
-    size_t skip;
-    bool normalize;
-    uint64_t allowance;
-};
+struct ravelsickle_recovered ravelsickle_recover_2d_prefix(const double *rows, size_t floats,
+                                                           struct ravelsickle_recovery_task task);
 
 /* The original's usual tolerances, a start beyond the set, no row skipped, no normalising, and no limit on readings. */
 static inline struct ravelsickle_task ravelsickle_usual_task(void) {
@@ -179,30 +205,9 @@ static inline struct ravelsickle_task ravelsickle_usual_task(void) {
     task.x0 = 0.0;
     task.y0 = RAVELSICKLE_BEYOND;
     task.skip = 0;
-    task.normalize = false;
+    task.normalize = RAVELSICKLE_NORMALIZE_OFF;
     task.allowance = UINT64_MAX;
     return task;
-}
-
-/* An answer before anything was solved: nothing, no active rows, no readings. */
-static inline struct ravelsickle_answer ravelsickle_no_answer(void) {
-    struct ravelsickle_answer answer;
-    answer.kind = RAVELSICKLE_NOTHING;
-    answer.x = 0.0;
-    answer.y = 0.0;
-    answer.has_first = false;
-    answer.first = 0;
-    answer.has_second = false;
-    answer.second = 0;
-    answer.count = 0;
-    return answer;
-}
-
-/* ravelsickle_solve_rows with a task. `answer` has a value before the call: ravelsickle_no_answer() gives one. */
-static inline uint64_t ravelsickle_solve_task(struct ravelsickle_row *rows, size_t rows_count,
-                                              const struct ravelsickle_task *task, struct ravelsickle_answer *answer) {
-    return ravelsickle_solve_rows(rows, rows_count, task->feasibility, task->scale, task->x0, task->y0, task->skip,
-                                  task->normalize, task->allowance, answer);
 }
 
 #ifdef __cplusplus
