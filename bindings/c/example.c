@@ -37,18 +37,17 @@ static void print_answer(const struct ravelsickle_answer *answer) {
 
 static void solve_and_print(const char *what, struct ravelsickle_row *rows, size_t n, uint64_t allowance) {
     struct ravelsickle_task task = ravelsickle_usual_task();
-    struct ravelsickle_answer answer = ravelsickle_no_answer();
-    uint64_t number;
-    task.normalize = true;
+    struct ravelsickle_answer answer;
+    task.normalize = RAVELSICKLE_NORMALIZE_SOURCE;
     task.allowance = allowance;
-    number = ravelsickle_solve_task(rows, n, &task, &answer);
+    answer = ravelsickle_solve(&rows->a, 3 * n, task);
     printf("%s: ", what);
-    if (number == 0) {
+    if (answer.refusal == RAVELSICKLE_DONE) {
         print_answer(&answer);
-    } else if (number == RAVELSICKLE_STOPPED) {
+    } else if (answer.refusal == RAVELSICKLE_STOPPED) {
         printf("not finished within %" PRIu64 " readings\n", answer.count);
     } else {
-        printf("refused %" PRIu64 "\n", number);
+        printf("refused %" PRIu64 "\n", answer.refusal);
     }
 }
 

@@ -1,11 +1,12 @@
 /*
  * How a call crosses from a test on another processor to the x86-64 library under an emulator: one record, then the
- * floats lent, and the same back. Both sides have little-endian numbers of the same sizes.
+ * floats lent, and the same back. The records lie in memory alike on both sides: little-endian numbers of the same sizes
+ * in the same places.
  */
 #ifndef RELAY_H
 #define RELAY_H
 
-#include <stdint.h>
+#include "../c/ravelsickle.h"
 
 /* The most floats that a call may lend: room for more than the row limit, so that refusal 2 can be asked for. */
 #define RELAY_FLOATS 65536
@@ -22,25 +23,32 @@ enum relay_entry {
     RELAY_RECOVER
 };
 
+/* What an entry is given besides what is lent to it. */
+union relay_given {
+    double numbers[3];
+    struct ravelsickle_row rows[2];
+    struct ravelsickle_line_task line;
+    struct ravelsickle_task task;
+    struct ravelsickle_recovery_task recovery;
+};
+
+/* What it gives back. */
+union relay_got {
+    double number;
+    uint64_t refusal;
+    struct ravelsickle_crossing crossing;
+    struct ravelsickle_bounds bounds;
+    struct ravelsickle_answer answer;
+    struct ravelsickle_solution solution;
+    struct ravelsickle_recovered recovered;
+};
+
 struct relay_call {
     uint64_t entry;
     /* how many floats follow the record */
     uint64_t floats;
-    /* the entry's own floats, in the order of its arguments */
-    double given[6];
-    /* the rows to skip, or the prefix to recover */
-    uint64_t rows;
-    /* the flag of lp_1d, or whether to normalise */
-    uint64_t flag;
-    uint64_t allowance;
-    /* the numbers that the caller lends by pointer; high and low cross as x and y */
-    uint64_t kind;
-    double x, y;
-    uint64_t has_first, first, has_second, second;
-    uint64_t count;
-    /* what the entry returns: root and fused a float, the others a number */
-    uint64_t number;
-    double value;
+    union relay_given given;
+    union relay_got got;
 };
 
 #endif

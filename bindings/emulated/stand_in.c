@@ -1,13 +1,12 @@
 /*
- * The library's entries on a processor other than x86-64, for tests alone: each passes its arguments to the real library,
- * which runs under an emulator as a process of its own (server.c), and writes back what the real one left. A program on
- * such a processor cannot link the library itself.
+ * The library's entries on a processor other than x86-64, for tests alone: each passes what it is given to the real
+ * library, which runs under an emulator as a process of its own (server.c), and gives back what the real one gave. A
+ * program on such a processor cannot link the library itself.
  *
  * RELAY_COMMAND is the program that starts the server; bindings/run sets it.
  */
 #define _POSIX_C_SOURCE 200809L
 
-#include "../c/ravelsickle.h"
 #include "relay.h"
 
 #include <fcntl.h>
@@ -109,142 +108,66 @@ static struct relay_call call_of(enum relay_entry entry, size_t floats) {
 
 double ravelsickle_root(double x) {
     struct relay_call call = call_of(RELAY_ROOT, 0);
-    call.given[0] = x;
+    call.given.numbers[0] = x;
     relay(&call, NULL, NULL);
-    return call.value;
+    return call.got.number;
 }
 
 double ravelsickle_fused(double x, double y, double z) {
     struct relay_call call = call_of(RELAY_FUSED, 0);
-    call.given[0] = x;
-    call.given[1] = y;
-    call.given[2] = z;
+    call.given.numbers[0] = x;
+    call.given.numbers[1] = y;
+    call.given.numbers[2] = z;
     relay(&call, NULL, NULL);
-    return call.value;
+    return call.got.number;
 }
 
 uint64_t ravelsickle_normalize(double *rows, size_t floats) {
     struct relay_call call = call_of(RELAY_NORMALIZE, floats);
     relay(&call, rows, rows);
-    return call.number;
+    return call.got.refusal;
 }
 
-uint64_t ravelsickle_solve_2x2(double a0, double b0, double c0, double a1, double b1, double c1, double *x, double *y) {
+struct ravelsickle_crossing ravelsickle_solve_2x2(struct ravelsickle_row r, struct ravelsickle_row s) {
     struct relay_call call = call_of(RELAY_SOLVE_2X2, 0);
-    const double given[6] = {a0, b0, c0, a1, b1, c1};
-    memcpy(call.given, given, sizeof given);
-    call.x = *x;
-    call.y = *y;
+    call.given.rows[0] = r;
+    call.given.rows[1] = s;
     relay(&call, NULL, NULL);
-    *x = call.x;
-    *y = call.y;
-    return call.number;
+    return call.got.crossing;
 }
 
-uint64_t ravelsickle_lp_1d(const double *pairs, size_t floats, bool autonan, double feasibility, double scale,
-                           double *high, double *low) {
+struct ravelsickle_bounds ravelsickle_lp_1d(const double *pairs, size_t floats, struct ravelsickle_line_task task) {
     struct relay_call call = call_of(RELAY_LP_1D, floats);
-    call.given[0] = feasibility;
-    call.given[1] = scale;
-    call.flag = autonan;
-    call.x = *high;
-    call.y = *low;
+    call.given.line = task;
     relay(&call, pairs, NULL);
-    *high = call.x;
-    *low = call.y;
-    return call.number;
+    return call.got.bounds;
 }
 
-/* The arguments that every solve has. */
-static void put_task(struct relay_call *call, double feasibility, double scale, double x0, double y0, size_t skip,
-                     bool normalize) {
-    call->given[0] = feasibility;
-    call->given[1] = scale;
-    call->given[2] = x0;
-    call->given[3] = y0;
-    call->rows = skip;
-    call->flag = normalize;
-}
-
-/* The collector, before a call and after it. */
-static void put_collector(struct relay_call *call, const bool *has_first, const size_t *first, const bool *has_second,
-                          const size_t *second) {
-    call->has_first = *has_first;
-    call->first = *first;
-    call->has_second = *has_second;
-    call->second = *second;
-}
-
-static void get_collector(const struct relay_call *call, bool *has_first, size_t *first, bool *has_second,
-                          size_t *second) {
-    *has_first = call->has_first != 0;
-    *first = call->first;
-    *has_second = call->has_second != 0;
-    *second = call->second;
-}
-
-static uint64_t relay_solve(struct relay_call *call, double *rows, uint64_t *kind, double *x, double *y,
-                            bool *has_first, size_t *first, bool *has_second, size_t *second, uint64_t *count) {
-    call->kind = *kind;
-    call->x = *x;
-    call->y = *y;
-    call->count = *count;
-    put_collector(call, has_first, first, has_second, second);
-    relay(call, rows, rows);
-    get_collector(call, has_first, first, has_second, second);
-    *kind = call->kind;
-    *x = call->x;
-    *y = call->y;
-    *count = call->count;
-    return call->number;
-}
-
-uint64_t ravelsickle_solve(double *rows, size_t floats, double feasibility, double scale, double x0, double y0,
-                           size_t skip, bool normalize, uint64_t allowance, uint64_t *kind, double *x, double *y,
-                           bool *has_first, size_t *first, bool *has_second, size_t *second, uint64_t *count) {
-    struct relay_call call = call_of(RELAY_SOLVE, floats);
-    put_task(&call, feasibility, scale, x0, y0, skip, normalize);
-    call.allowance = allowance;
-    return relay_solve(&call, rows, kind, x, y, has_first, first, has_second, second, count);
-}
-
-uint64_t ravelsickle_solve_rows(struct ravelsickle_row *rows, size_t rows_count, double feasibility, double scale,
-                                double x0, double y0, size_t skip, bool normalize, uint64_t allowance,
-                                struct ravelsickle_answer *answer) {
-    struct relay_call call = call_of(RELAY_SOLVE_ROWS, 3 * rows_count);
-    put_task(&call, feasibility, scale, x0, y0, skip, normalize);
-    call.allowance = allowance;
-    return relay_solve(&call, (double *)rows, &answer->kind, &answer->x, &answer->y, &answer->has_first, &answer->first,
-                       &answer->has_second, &answer->second, &answer->count);
-}
-
-uint64_t ravelsickle_lp_2d_incre_max_y(double *rows, size_t floats, double feasibility, double scale, double x0,
-                                       double y0, size_t skip, bool normalize, uint64_t *kind, double *x, double *y) {
-    struct relay_call call = call_of(RELAY_INCRE_MAX_Y, floats);
-    put_task(&call, feasibility, scale, x0, y0, skip, normalize);
-    call.kind = *kind;
-    call.x = *x;
-    call.y = *y;
+/* Any of the three solves. */
+static union relay_got relay_solve(enum relay_entry entry, double *rows, size_t floats, struct ravelsickle_task task) {
+    struct relay_call call = call_of(entry, floats);
+    call.given.task = task;
     relay(&call, rows, rows);
-    *kind = call.kind;
-    *x = call.x;
-    *y = call.y;
-    return call.number;
+    return call.got;
 }
 
-uint64_t ravelsickle_recover_2d_prefix(const double *rows, size_t floats, size_t upto, double x0, double y0,
-                                       double bound, double epsilon, double reduced, double *x, double *y,
-                                       bool *has_first, size_t *first, bool *has_second, size_t *second) {
+struct ravelsickle_answer ravelsickle_solve(double *rows, size_t floats, struct ravelsickle_task task) {
+    return relay_solve(RELAY_SOLVE, rows, floats, task).answer;
+}
+
+struct ravelsickle_answer ravelsickle_solve_rows(struct ravelsickle_row *rows, size_t rows_count,
+                                                 struct ravelsickle_task task) {
+    return relay_solve(RELAY_SOLVE_ROWS, (double *)rows, 3 * rows_count, task).answer;
+}
+
+struct ravelsickle_solution ravelsickle_lp_2d_incre_max_y(double *rows, size_t floats, struct ravelsickle_task task) {
+    return relay_solve(RELAY_INCRE_MAX_Y, rows, floats, task).solution;
+}
+
+struct ravelsickle_recovered ravelsickle_recover_2d_prefix(const double *rows, size_t floats,
+                                                           struct ravelsickle_recovery_task task) {
     struct relay_call call = call_of(RELAY_RECOVER, floats);
-    const double given[5] = {x0, y0, bound, epsilon, reduced};
-    memcpy(call.given, given, sizeof given);
-    call.rows = upto;
-    call.x = *x;
-    call.y = *y;
-    put_collector(&call, has_first, first, has_second, second);
+    call.given.recovery = task;
     relay(&call, rows, NULL);
-    *x = call.x;
-    *y = call.y;
-    get_collector(&call, has_first, first, has_second, second);
-    return call.number;
+    return call.got.recovered;
 }

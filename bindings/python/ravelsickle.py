@@ -8,8 +8,8 @@ beforehand.
 
 Rows are given in one of three ways, and are changed in place where they are normalised, as in the original:
 
-* a buffer of C doubles, contiguous and writable (a numpy array of float64 of any shape, an array.array('d'), a
-  memoryview): nothing is copied;
+* a buffer of C doubles, contiguous, aligned and writable (a numpy array of float64, an array.array('d'), a
+  memoryview): nothing is copied. It is flat, or its last dimension is a row;
 * a list of floats, three to a row: changed floats are written back into the list;
 * a list of rows of three floats: changed rows are written back, a list in place and a tuple as a new tuple.
 
@@ -23,6 +23,7 @@ links it. RAVELSICKLE_SHARED names another one.
 """
 
 import ctypes
+import operator
 import os
 import sys
 from array import array
@@ -138,6 +139,10 @@ class Refusal(Exception):
         self.count = count
         super().__init__(f"refusal {number}: {_REASONS.get(number, 'a number that this module does not know')}")
 
+    def __reduce__(self):
+        """Pickled by its numbers, from which its text is made again."""
+        return Refusal, (self.number, self.count)
+
 
 _REASONS = {
     1: "the floats lent are no whole rows or pairs",
@@ -147,6 +152,7 @@ _REASONS = {
     5: "the two equations have no reliable crossing",
     6: "recovery found no point",
     7: "the prefix is longer than the rows",
+    10: "the number for normalising names no mode",
 }
 
 
@@ -157,27 +163,91 @@ _number = ctypes.c_uint64
 _size = ctypes.c_size_t
 _flag = ctypes.c_bool
 _floats = ctypes.POINTER(ctypes.c_double)
-_to = ctypes.POINTER
 
-# What every solve is given after its rows, up to whether to normalise.
-_TASK = [_double, _double, _double, _double, _size, _flag]
-_ANSWER = [_to(_number), _to(_double), _to(_double)]
-_ROWS_HELD = [_to(_flag), _to(_size), _to(_flag), _to(_size)]
 
-# Every entry: what it returns, and its arguments.
+class _Row(ctypes.Structure):
+    _fields_ = [("a", _double), ("b", _double), ("c", _double)]
+
+
+class _Task(ctypes.Structure):
+    _fields_ = [
+        ("feasibility", _double),
+        ("scale", _double),
+        ("x0", _double),
+        ("y0", _double),
+        ("skip", _size),
+        ("normalize", _number),
+        ("allowance", _number),
+    ]
+
+
+class _Answered(ctypes.Structure):
+    _fields_ = [
+        ("refusal", _number),
+        ("kind", _number),
+        ("x", _double),
+        ("y", _double),
+        ("count", _number),
+        ("first", _size),
+        ("second", _size),
+        ("has_first", _flag),
+        ("has_second", _flag),
+    ]
+
+
+class _Solution(ctypes.Structure):
+    _fields_ = [("refusal", _number), ("kind", _number), ("x", _double), ("y", _double)]
+
+
+class _Crossing(ctypes.Structure):
+    _fields_ = [("refusal", _number), ("x", _double), ("y", _double)]
+
+
+class _LineTask(ctypes.Structure):
+    _fields_ = [("feasibility", _double), ("scale", _double), ("autonan", _flag)]
+
+
+class _LineBounds(ctypes.Structure):
+    _fields_ = [("refusal", _number), ("high", _double), ("low", _double)]
+
+
+class _RecoveryTask(ctypes.Structure):
+    _fields_ = [
+        ("upto", _size),
+        ("x0", _double),
+        ("y0", _double),
+        ("bound", _double),
+        ("epsilon", _double),
+        ("reduced", _double),
+        ("first", _size),
+        ("second", _size),
+        ("has_first", _flag),
+        ("has_second", _flag),
+    ]
+
+
+class _Recovered(ctypes.Structure):
+    _fields_ = [
+        ("refusal", _number),
+        ("x", _double),
+        ("y", _double),
+        ("first", _size),
+        ("second", _size),
+        ("has_first", _flag),
+        ("has_second", _flag),
+    ]
+
+
+# Every entry: what it gives back, and what it is given. The records are those of bindings/c/ravelsickle.h.
 _ENTRIES = {
     "ravelsickle_root": (_double, [_double]),
     "ravelsickle_fused": (_double, [_double] * 3),
     "ravelsickle_normalize": (_number, [_floats, _size]),
-    "ravelsickle_solve_2x2": (_number, [_double] * 6 + [_to(_double)] * 2),
-    "ravelsickle_lp_1d": (_number, [_floats, _size, _flag, _double, _double] + [_to(_double)] * 2),
-    "ravelsickle_solve": (_number, [_floats, _size] + _TASK + [_number] + _ANSWER + _ROWS_HELD + [_to(_number)]),
-    # an array of rows is the same memory as its floats, so the pointer is to floats and the size counts rows
-    "ravelsickle_lp_2d_incre_max_y": (_number, [_floats, _size] + _TASK + _ANSWER),
-    "ravelsickle_recover_2d_prefix": (
-        _number,
-        [_floats, _size, _size] + [_double] * 5 + [_to(_double)] * 2 + _ROWS_HELD,
-    ),
+    "ravelsickle_solve_2x2": (_Crossing, [_Row, _Row]),
+    "ravelsickle_lp_1d": (_LineBounds, [_floats, _size, _LineTask]),
+    "ravelsickle_solve": (_Answered, [_floats, _size, _Task]),
+    "ravelsickle_lp_2d_incre_max_y": (_Solution, [_floats, _size, _Task]),
+    "ravelsickle_recover_2d_prefix": (_Recovered, [_floats, _size, _RecoveryTask]),
 }
 
 
@@ -266,18 +336,36 @@ class _ListOfRows(_Copy):
                     self.rows[k] = tuple(changed)
 
 
-def _view(rows) -> Optional[memoryview]:
-    """The buffer of something that has one, checked to be whole doubles one after another."""
+def _fault(view: memoryview, width: int) -> Optional[Exception]:
+    """Why a buffer is no whole doubles one after another, `width` to a row where it has rows; None where it is."""
+    native = {"d", "@d", "=d", "<d" if sys.byteorder == "little" else ">d"}
+    if view.format not in native:
+        return TypeError(f"the buffer holds elements of format {view.format!r}; rows are float64, format 'd'")
+    if not view.c_contiguous:
+        return ValueError("the buffer is not contiguous: its floats have to lie one after another")
+    if view.ndim > 1 and view.shape[-1] != width:
+        return ValueError(f"the buffer has the shape {view.shape}: its last dimension has to be {width}")
+    return None
+
+
+def _view(rows, width: int) -> Optional[memoryview]:
+    """The buffer of something that has one, checked. One that is refused is let go before the error is raised, which may
+    be kept for long."""
     try:
         view = memoryview(rows)
     except TypeError:
         return None
-    native = {"d", "@d", "=d", "<d" if sys.byteorder == "little" else ">d"}
-    if view.format not in native:
-        raise TypeError(f"the buffer holds elements of format {view.format!r}; rows are float64, format 'd'")
-    if not view.c_contiguous:
-        raise ValueError("the buffer is not contiguous: its floats have to lie one after another")
+    fault = _fault(view, width)
+    if fault is not None:
+        view.release()
+        raise fault
     return view
+
+
+def _is_aligned(view: memoryview) -> bool:
+    """Whether a writable buffer begins where a double may lie."""
+    begin = ctypes.addressof(ctypes.c_char.from_buffer(view)) if view.nbytes else 0
+    return begin % ctypes.alignment(ctypes.c_double) == 0
 
 
 def _is_row(item) -> bool:
@@ -295,18 +383,20 @@ def _lend_list(rows: list, width: int):
 
 def _lend(rows):
     """Rows that the entry may change."""
-    view = _view(rows)
+    view = _view(rows, 3)
     if view is not None:
-        if view.readonly:
-            raise ValueError("the buffer is read-only: rows are changed in place")
-        return _Buffer(view)
+        if not view.readonly and _is_aligned(view):
+            return _Buffer(view)
+        why = "is read-only: rows are changed in place" if view.readonly else "does not begin where a float64 may lie"
+        view.release()
+        raise ValueError(f"the buffer {why}")
     if isinstance(rows, list):
         return _lend_list(rows, 3)
     raise TypeError(f"rows are a list or a writable buffer of float64, not {type(rows).__name__}")
 
 
 def _writable_copy(view: memoryview) -> memoryview:
-    """A copy of what is read-only, since ctypes lends only what is writable."""
+    """A copy of what ctypes cannot lend: what is read-only, or begins where no double may lie."""
     copy = array("d")
     copy.frombytes(view.tobytes())
     return memoryview(copy)
@@ -314,47 +404,62 @@ def _writable_copy(view: memoryview) -> memoryview:
 
 def _lend_to_read(floats, width: int):
     """Rows or pairs that the entry only reads."""
-    view = _view(floats)
+    view = _view(floats, width)
     if view is not None:
-        return _Buffer(_writable_copy(view) if view.readonly else view)
+        return _Buffer(_writable_copy(view) if view.readonly or not _is_aligned(view) else view)
     if isinstance(floats, (list, tuple)):
         return _lend_list(list(floats), width)
     raise TypeError(f"rows are a list, a tuple or a buffer of float64, not {type(floats).__name__}")
 
 
-# ---- Numbers lent to an entry ----
+def _called(entry, lent, *given):
+    """Calls an entry on what is lent and gives it back. Nothing holds the memory afterwards, also where a call that fails
+    is kept as an error: a buffer that is held cannot grow."""
+    try:
+        got = entry(lent.memory, lent.count, *given)
+        lent.give_back()
+        return got
+    finally:
+        lent.memory = None
 
 
-class _Slot:
-    """A row's number and the flag that says whether there is one."""
-
-    def __init__(self, row: Optional[int] = None):
-        self.held = _flag(row is not None)
-        self.row = _size(0 if row is None else _index(row, "a row's number"))
-
-    def get(self) -> Optional[int]:
-        return self.row.value if self.held.value else None
-
-
-def _index(value: int, what: str) -> int:
-    """A whole number that a size_t holds; ctypes would cut any other to fit."""
-    return _whole(value, what, 8 * ctypes.sizeof(_size))
+# ---- What crosses ----
 
 
 def _whole(value: int, what: str, width: int) -> int:
-    if isinstance(value, float) or not 0 <= value < 2**width:
+    """A whole number that fits; ctypes would cut any other."""
+    try:
+        number = operator.index(value)
+    except TypeError:
+        raise TypeError(f"{what} is a whole number, not {value!r}") from None
+    if not 0 <= number < 2**width:
         raise ValueError(f"{what} is a whole number from 0 to 2^{width} - 1, not {value!r}")
-    return int(value)
+    return number
 
 
-def _task(start: WarmStart, tolerances: Tolerances, normalize: bool) -> tuple:
+def _index(value: int, what: str) -> int:
+    """A whole number that a size_t holds."""
+    return _whole(value, what, 8 * ctypes.sizeof(_size))
+
+
+def _task(start: WarmStart, tolerances: Tolerances, normalize: bool, allowance: int) -> _Task:
     skip = _index(start.skip, "the number of rows to skip")
-    return (tolerances.feasibility, tolerances.scale, start.x, start.y, skip, bool(normalize))
+    allowed = _whole(allowance, "an allowance", 64)
+    return _Task(tolerances.feasibility, tolerances.scale, start.x, start.y, skip, 1 if normalize else 0, allowed)
+
+
+def _row_number(row: Optional[int]) -> int:
+    """A row's number; without a row it says nothing."""
+    return 0 if row is None else _index(row, "a row's number")
+
+
+def _row(has: bool, number: int) -> Optional[int]:
+    return number if has else None
 
 
 def _answer(kind: int, x: float, y: float) -> Answer:
     """The answer of a kind's number, with the pair beside it."""
-    answers = {0: Answer(x, y), 1: Answer(None, y), 2: Answer(x, None), 3: Answer(None, None)}
+    answers = {1: Answer(x, y), 2: Answer(None, y), 3: Answer(x, None), 4: Answer(None, None)}
     if kind not in answers:
         raise RuntimeError(f"the library gave an answer of kind {kind}: it is newer than this module")
     return answers[kind]
@@ -382,18 +487,15 @@ def normalize(rows) -> None:
     """Scales the rows in place to unit normals. A row whose norm is zero or not finite becomes zeros.
 
     Refusals 1 and 2 leave the rows."""
-    lent = _lend(rows)
-    number = _library.ravelsickle_normalize(lent.memory, lent.count)
-    lent.give_back()
-    _check(number)
+    _check(_called(_library.ravelsickle_normalize, _lend(rows)))
 
 
 def solve_2x2(r, s) -> Tuple[float, float]:
     """The point (x, y) on the boundaries of both rows, each given as its three floats. Refusal 5."""
     (a0, b0, c0), (a1, b1, c1) = r, s
-    x, y = _double(), _double()
-    _check(_library.ravelsickle_solve_2x2(a0, b0, c0, a1, b1, c1, x, y))
-    return x.value, y.value
+    got = _library.ravelsickle_solve_2x2(_Row(a0, b0, c0), _Row(a1, b1, c1))
+    _check(got.refusal)
+    return got.x, got.y
 
 
 def lp_1d(pairs, autonan: bool, tolerances: Tolerances = Tolerances()) -> Bounds:
@@ -401,14 +503,10 @@ def lp_1d(pairs, autonan: bool, tolerances: Tolerances = Tolerances()) -> Bounds
     high below the low becomes the middle of both where they are within the tolerance of each other, else NaN.
 
     Refusals 1 and 2."""
-    lent = _lend_to_read(pairs, 2)
-    high, low = _double(), _double()
-    _check(
-        _library.ravelsickle_lp_1d(
-            lent.memory, lent.count, bool(autonan), tolerances.feasibility, tolerances.scale, high, low
-        )
-    )
-    return Bounds(high.value, low.value)
+    task = _LineTask(tolerances.feasibility, tolerances.scale, bool(autonan))
+    got = _called(_library.ravelsickle_lp_1d, _lend_to_read(pairs, 2), task)
+    _check(got.refusal)
+    return Bounds(got.high, got.low)
 
 
 def solve(
@@ -422,17 +520,11 @@ def solve(
 
     Refusals 1 and 2 leave the rows; refusal 3 leaves them as after the last normalisation all of whose readings
     fitted."""
-    task = _task(start, tolerances, normalize)
-    allowed = _whole(allowance, "an allowance", 64)
-    lent = _lend(rows)
-    kind, x, y, count = _number(), _double(), _double(), _number()
-    first, second = _Slot(), _Slot()
-    number = _library.ravelsickle_solve(
-        lent.memory, lent.count, *task, allowed, kind, x, y, first.held, first.row, second.held, second.row, count
-    )
-    lent.give_back()
-    _check(number, count.value)
-    return Solved(_answer(kind.value, x.value, y.value), (first.get(), second.get()), count.value)
+    task = _task(start, tolerances, normalize, allowance)
+    got = _called(_library.ravelsickle_solve, _lend(rows), task)
+    _check(got.refusal, got.count)
+    active = (_row(got.has_first, got.first), _row(got.has_second, got.second))
+    return Solved(_answer(got.kind, got.x, got.y), active, got.count)
 
 
 def lp_2d_incre_max_y(
@@ -441,13 +533,10 @@ def lp_2d_incre_max_y(
     """The original's own entry: the answer of solve without allowance, active rows or count.
 
     Refusals 1 and 2 leave the rows."""
-    task = _task(start, tolerances, normalize)
-    lent = _lend(rows)
-    kind, x, y = _number(), _double(), _double()
-    number = _library.ravelsickle_lp_2d_incre_max_y(lent.memory, lent.count, *task, kind, x, y)
-    lent.give_back()
-    _check(number)
-    return _answer(kind.value, x.value, y.value)
+    task = _task(start, tolerances, normalize, UNLIMITED)
+    got = _called(_library.ravelsickle_lp_2d_incre_max_y, _lend(rows), task)
+    _check(got.refusal)
+    return _answer(got.kind, got.x, got.y)
 
 
 def recover(rows, upto: int, at: Tuple[float, float], frame: Frame, collector: Collector) -> Tuple[float, float]:
@@ -456,26 +545,18 @@ def recover(rows, upto: int, at: Tuple[float, float], frame: Frame, collector: C
     gave one.
 
     Refusals 1, 2, 7 and 6, which leave the collector."""
-    prefix = _index(upto, "a prefix")
-    first, second = _Slot(collector.first), _Slot(collector.second)
-    lent = _lend_to_read(rows, 3)
-    x, y = _double(), _double()
-    _check(
-        _library.ravelsickle_recover_2d_prefix(
-            lent.memory,
-            lent.count,
-            prefix,
-            *at,
-            frame.bound,
-            frame.epsilon,
-            frame.reduced,
-            x,
-            y,
-            first.held,
-            first.row,
-            second.held,
-            second.row,
-        )
+    task = _RecoveryTask(
+        _index(upto, "a prefix"),
+        *at,
+        frame.bound,
+        frame.epsilon,
+        frame.reduced,
+        _row_number(collector.first),
+        _row_number(collector.second),
+        collector.first is not None,
+        collector.second is not None,
     )
-    collector.first, collector.second = first.get(), second.get()
-    return x.value, y.value
+    got = _called(_library.ravelsickle_recover_2d_prefix, _lend_to_read(rows, 3), task)
+    _check(got.refusal)
+    collector.first, collector.second = _row(got.has_first, got.first), _row(got.has_second, got.second)
+    return got.x, got.y

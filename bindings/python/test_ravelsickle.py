@@ -1,13 +1,16 @@
 """The entries through Python: the worked examples, every refusal with what it leaves, and every way of giving rows."""
 
+import ctypes
 import doctest
 import math
 import os
+import pickle
 import struct
 import subprocess
 import sys
 import unittest
 from array import array
+from fractions import Fraction
 
 import ravelsickle
 from ravelsickle import Answer, Bounds, Collector, Frame, Refusal, Solved, Tolerances, WarmStart
@@ -33,6 +36,10 @@ def by_rows(floats):
 
 def bits(x):
     return struct.pack("<d", x).hex()
+
+
+def ctypes_address(view):
+    return ctypes.addressof(ctypes.c_char.from_buffer(view))
 
 
 class Checked(unittest.TestCase):
@@ -140,20 +147,29 @@ class Solving(Checked):
         self.assertEqual(Tolerances(), Tolerances(1e-9, 10.0))
 
     def test_a_number_that_does_not_fit_is_refused_before_the_call(self):
-        for allowance in (-1, 2**64, 1.0):
+        for number in (-1, 2**64):
             with self.assertRaises(ValueError):
-                ravelsickle.solve(list(S3), allowance=allowance)
-        for skip in (-1, 2**64, 0.5):
+                ravelsickle.solve(list(S3), allowance=number)
             with self.assertRaises(ValueError):
-                ravelsickle.solve(list(S3), start=WarmStart(skip=skip))
+                ravelsickle.solve(list(S3), start=WarmStart(skip=number))
+
+    def test_a_number_that_is_not_whole_is_refused_and_not_cut(self):
+        for number in (7.0, 0.5, Fraction(15, 2), Fraction(7), "7", None):
+            with self.assertRaisesRegex(TypeError, "whole number"):
+                ravelsickle.solve(list(S3), allowance=number)
+            with self.assertRaisesRegex(TypeError, "whole number"):
+                ravelsickle.solve(list(S3), start=WarmStart(skip=number))
+
+    def test_the_largest_skip(self):
         self.assertEqual(ravelsickle.solve(list(S3), start=WarmStart(skip=2**64 - 1)).answer, Answer(1.0, 1.0))
 
     def test_every_kind_has_its_answer(self):
-        kinds = [ravelsickle._answer(kind, 1.0, 2.0) for kind in range(4)]
+        kinds = [ravelsickle._answer(kind, 1.0, 2.0) for kind in range(1, 5)]
         self.assertEqual(kinds, [Answer(1.0, 2.0), Answer(None, 2.0), Answer(1.0, None), Answer(None, None)])
         self.assertEqual([answer.kind for answer in kinds], ["point", "level", "across", "nothing"])
-        with self.assertRaises(RuntimeError):
-            ravelsickle._answer(4, 1.0, 2.0)
+        for kind in (0, 5):
+            with self.assertRaises(RuntimeError):
+                ravelsickle._answer(kind, 1.0, 2.0)
 
 
 class SmallEntries(Checked):
@@ -200,7 +216,13 @@ class SmallEntries(Checked):
 
     def test_a_refusal_says_its_number_and_why(self):
         self.assertEqual(str(Refusal(7)), "refusal 7: the prefix is longer than the rows")
+        self.assertEqual(str(Refusal(10)), "refusal 10: the number for normalising names no mode")
         self.assertEqual(str(Refusal(99)), "refusal 99: a number that this module does not know")
+
+    def test_a_pickled_refusal_comes_back_as_it_was(self):
+        for refusal in (Refusal(3, 6), Refusal(7)):
+            again = pickle.loads(pickle.dumps(refusal))
+            self.assertEqual((again.number, again.count, str(again)), (refusal.number, refusal.count, str(refusal)))
 
 
 class Recovering(Checked):
@@ -257,6 +279,44 @@ class GivingRows(Checked):
         rows = array("d", TILTED + TILTED)
         ravelsickle.normalize(memoryview(rows)[6:])
         self.assertEqual(rows.tolist(), TILTED + TILTED_UNIT)
+
+    def test_a_buffer_whose_rows_have_another_length_is_refused(self):
+        turned = memoryview(array("d", TILTED)).cast("B").cast("d", [3, 2])
+        for entry in (ravelsickle.solve, ravelsickle.normalize, ravelsickle.lp_2d_incre_max_y):
+            with self.assertRaisesRegex(ValueError, "last dimension has to be 3"):
+                entry(turned)
+        with self.assertRaisesRegex(ValueError, "last dimension has to be 2"):
+            ravelsickle.lp_1d(memoryview(array("d", TILTED)).cast("B").cast("d", [2, 3]), True)
+
+    def test_a_buffer_that_is_not_aligned(self):
+        shifted = memoryview(bytearray(8 * len(S3) + 1))[1:].cast("d")
+        for k, x in enumerate(S3):
+            shifted[k] = x
+        aligned = ctypes_address(shifted) % 8 == 0
+        for entry in (ravelsickle.solve, ravelsickle.normalize, ravelsickle.lp_2d_incre_max_y):
+            if not aligned:
+                with self.assertRaisesRegex(ValueError, "where a float64 may lie"):
+                    entry(shifted)
+        self.assertEqual(ravelsickle.recover(shifted, 2, (0.0, 2.0), FRAME, Collector()), (1.0, 1.0))
+
+    def test_a_kept_error_does_not_hold_the_buffer(self):
+        """An array of which a view is held cannot grow. The errors are kept with all that their frames hold."""
+        kept = []
+        calls = (
+            (array("d", S3), lambda rows: ravelsickle.solve(rows, allowance=6)),
+            (array("d", S3), lambda rows: ravelsickle.solve(rows, allowance=0.5)),
+            (array("d", S3[:4]), ravelsickle.normalize),
+            (array("d", S3), lambda rows: ravelsickle.recover(rows, 3, (0.0, 2.0), FRAME, Collector())),
+            (array("d", S3[:3]), lambda pairs: ravelsickle.lp_1d(pairs, True)),
+            (array("f", S3), ravelsickle.solve),
+        )
+        for rows, call in calls:
+            try:
+                call(rows)
+            except (Refusal, TypeError) as error:
+                kept.append(error)
+            rows.append(0.0)
+        self.assertEqual(len(kept), len(calls))
 
     def test_an_empty_buffer(self):
         self.assertEqual(ravelsickle.solve(array("d")).count, 0)

@@ -1,4 +1,93 @@
-//! The library's entries as C sees them. `bindings/c/ravelsickle.h` says what each does and what a refusal leaves.
+//! The library's entries and the records that cross to them, as C sees them. `bindings/c/ravelsickle.h` says what each does
+//! and what a refusal answers and leaves.
+
+use crate::Row;
+
+/// `struct ravelsickle_task`.
+#[repr(C)]
+pub(crate) struct Task {
+    pub(crate) feasibility: f64,
+    pub(crate) scale: f64,
+    pub(crate) x0: f64,
+    pub(crate) y0: f64,
+    pub(crate) skip: usize,
+    pub(crate) normalize: u64,
+    pub(crate) allowance: u64,
+}
+
+/// `struct ravelsickle_answer`.
+#[repr(C)]
+pub(crate) struct Answer {
+    pub(crate) refusal: u64,
+    pub(crate) kind: u64,
+    pub(crate) x: f64,
+    pub(crate) y: f64,
+    pub(crate) count: u64,
+    pub(crate) first: usize,
+    pub(crate) second: usize,
+    pub(crate) has_first: bool,
+    pub(crate) has_second: bool,
+}
+
+/// `struct ravelsickle_solution`.
+#[repr(C)]
+pub(crate) struct Solution {
+    pub(crate) refusal: u64,
+    pub(crate) kind: u64,
+    pub(crate) x: f64,
+    pub(crate) y: f64,
+}
+
+/// `struct ravelsickle_crossing`.
+#[repr(C)]
+pub(crate) struct Crossing {
+    pub(crate) refusal: u64,
+    pub(crate) x: f64,
+    pub(crate) y: f64,
+}
+
+/// `struct ravelsickle_line_task`.
+#[repr(C)]
+pub(crate) struct LineTask {
+    pub(crate) feasibility: f64,
+    pub(crate) scale: f64,
+    pub(crate) autonan: bool,
+}
+
+/// `struct ravelsickle_bounds`.
+#[repr(C)]
+pub(crate) struct Bounds {
+    pub(crate) refusal: u64,
+    pub(crate) high: f64,
+    pub(crate) low: f64,
+}
+
+/// `struct ravelsickle_recovery_task`.
+#[repr(C)]
+pub(crate) struct RecoveryTask {
+    pub(crate) upto: usize,
+    pub(crate) x0: f64,
+    pub(crate) y0: f64,
+    pub(crate) bound: f64,
+    pub(crate) epsilon: f64,
+    pub(crate) reduced: f64,
+    pub(crate) first: usize,
+    pub(crate) second: usize,
+    pub(crate) has_first: bool,
+    pub(crate) has_second: bool,
+}
+
+/// `struct ravelsickle_recovered`.
+#[repr(C)]
+pub(crate) struct Recovered {
+    pub(crate) refusal: u64,
+    pub(crate) x: f64,
+    pub(crate) y: f64,
+    pub(crate) first: usize,
+    pub(crate) second: usize,
+    pub(crate) has_first: bool,
+    pub(crate) has_second: bool,
+}
 
 extern "C" {
     pub(crate) fn ravelsickle_root(x: f64) -> f64;
@@ -7,75 +96,21 @@ extern "C" {
 
     pub(crate) fn ravelsickle_normalize(rows: *mut f64, floats: usize) -> u64;
 
-    pub(crate) fn ravelsickle_solve_2x2(
-        a0: f64,
-        b0: f64,
-        c0: f64,
-        a1: f64,
-        b1: f64,
-        c1: f64,
-        x: *mut f64,
-        y: *mut f64,
-    ) -> u64;
+    pub(crate) fn ravelsickle_solve_2x2(r: Row, s: Row) -> Crossing;
 
-    pub(crate) fn ravelsickle_lp_1d(
-        pairs: *const f64,
-        floats: usize,
-        autonan: bool,
-        feasibility: f64,
-        scale: f64,
-        high: *mut f64,
-        low: *mut f64,
-    ) -> u64;
+    pub(crate) fn ravelsickle_lp_1d(pairs: *const f64, floats: usize, task: LineTask) -> Bounds;
 
-    pub(crate) fn ravelsickle_solve(
-        rows: *mut f64,
-        floats: usize,
-        feasibility: f64,
-        scale: f64,
-        x0: f64,
-        y0: f64,
-        skip: usize,
-        normalize: bool,
-        allowance: u64,
-        kind: *mut u64,
-        x: *mut f64,
-        y: *mut f64,
-        has_first: *mut bool,
-        first: *mut usize,
-        has_second: *mut bool,
-        second: *mut usize,
-        count: *mut u64,
-    ) -> u64;
+    pub(crate) fn ravelsickle_solve(rows: *mut f64, floats: usize, task: Task) -> Answer;
 
     pub(crate) fn ravelsickle_lp_2d_incre_max_y(
         rows: *mut f64,
         floats: usize,
-        feasibility: f64,
-        scale: f64,
-        x0: f64,
-        y0: f64,
-        skip: usize,
-        normalize: bool,
-        kind: *mut u64,
-        x: *mut f64,
-        y: *mut f64,
-    ) -> u64;
+        task: Task,
+    ) -> Solution;
 
     pub(crate) fn ravelsickle_recover_2d_prefix(
         rows: *const f64,
         floats: usize,
-        upto: usize,
-        x0: f64,
-        y0: f64,
-        bound: f64,
-        epsilon: f64,
-        reduced: f64,
-        x: *mut f64,
-        y: *mut f64,
-        has_first: *mut bool,
-        first: *mut usize,
-        has_second: *mut bool,
-        second: *mut usize,
-    ) -> u64;
+        task: RecoveryTask,
+    ) -> Recovered;
 }

@@ -115,8 +115,12 @@ pub enum Normalize {
 }
 
 impl Normalize {
-    fn is_on(self) -> bool {
-        self == Normalize::Source
+    /// The number by which a mode crosses.
+    fn number(self) -> u64 {
+        match self {
+            Normalize::Off => 0,
+            Normalize::Source => 1,
+        }
     }
 }
 
@@ -129,6 +133,21 @@ pub struct Task {
     pub tolerances: Tolerances,
     /// Whether to normalise the rows.
     pub normalize: Normalize,
+}
+
+impl Task {
+    /// The record that crosses.
+    fn record(&self, allowance: u64) -> entries::Task {
+        entries::Task {
+            feasibility: self.tolerances.feasibility,
+            scale: self.tolerances.scale,
+            x0: self.start.x,
+            y0: self.start.y,
+            skip: self.start.skip,
+            normalize: self.normalize.number(),
+            allowance,
+        }
+    }
 }
 
 /// The answer of a solve. Infinite numbers are numbers.
@@ -174,10 +193,10 @@ impl Answer {
     /// The answer of a kind's number, with the pair beside it.
     fn of(kind: u64, x: f64, y: f64) -> Answer {
         match kind {
-            0 => Answer::Point { x, y },
-            1 => Answer::Level { y },
-            2 => Answer::Across { x },
-            3 => Answer::Nothing,
+            1 => Answer::Point { x, y },
+            2 => Answer::Level { y },
+            3 => Answer::Across { x },
+            4 => Answer::Nothing,
             _ => panic!("the library gave an answer of kind {kind}: it is newer than this crate"),
         }
     }
@@ -223,47 +242,9 @@ pub struct Bounds {
     pub low: f64,
 }
 
-/// A row's number and the flag that says whether there is one, as they are lent to an entry.
-#[derive(Default)]
-struct Slot {
-    held: bool,
-    row: usize,
-}
-
-impl Slot {
-    fn of(row: Option<usize>) -> Slot {
-        Slot {
-            held: row.is_some(),
-            row: row.unwrap_or(0),
-        }
-    }
-
-    fn row(&self) -> Option<usize> {
-        self.held.then_some(self.row)
-    }
-}
-
-/// The numbers that a solve writes.
-#[derive(Default)]
-struct Lent {
-    kind: u64,
-    x: f64,
-    y: f64,
-    first: Slot,
-    second: Slot,
-    count: u64,
-}
-
-impl Lent {
-    /// What the entry's number and the written numbers say.
-    fn solved(&self, number: u64) -> Result<Solved, Refusal> {
-        Refusal::check(number, self.count)?;
-        Ok(Solved {
-            answer: Answer::of(self.kind, self.x, self.y),
-            active: (self.first.row(), self.second.row()),
-            count: self.count,
-        })
-    }
+/// A row's number where its flag is set; without it the number says nothing.
+fn row(has: bool, number: usize) -> Option<usize> {
+    has.then_some(number)
 }
 
 /// The floats of rows, which are the same memory.
@@ -328,12 +309,10 @@ pub fn normalize_flat(rows: &mut [f64]) -> Result<(), Refusal> {
 /// assert_eq!(parallel, Err(Refusal::Singular));
 /// ```
 pub fn solve_2x2(r: Row, s: Row) -> Result<(f64, f64), Refusal> {
-    let (mut x, mut y) = (0.0, 0.0);
-    // SAFETY: the pointers lead to two numbers of this function.
-    let number =
-        unsafe { entries::ravelsickle_solve_2x2(r.a, r.b, r.c, s.a, s.b, s.c, &mut x, &mut y) };
-    Refusal::check(number, 0)?;
-    Ok((x, y))
+    // SAFETY: the entry takes records and gives one.
+    let got = unsafe { entries::ravelsickle_solve_2x2(r, s) };
+    Refusal::check(got.refusal, 0)?;
+    Ok((got.x, got.y))
 }
 
 /// The highest and the lowest t with `a*t <= b` for every pair `[a, b]`; infinite where no pair bounds it. With `autonan`
@@ -349,22 +328,18 @@ pub fn solve_2x2(r: Row, s: Row) -> Result<(f64, f64), Refusal> {
 /// ```
 pub fn lp_1d(pairs: &[[f64; 2]], autonan: bool, tolerances: Tolerances) -> Result<Bounds, Refusal> {
     let flat = pairs.as_flattened();
-    let (mut high, mut low) = (0.0, 0.0);
-    // SAFETY: the first pointer and the length are those of one slice, which the entry only reads; the others lead to two
-    // numbers of this function.
-    let number = unsafe {
-        entries::ravelsickle_lp_1d(
-            flat.as_ptr(),
-            flat.len(),
-            autonan,
-            tolerances.feasibility,
-            tolerances.scale,
-            &mut high,
-            &mut low,
-        )
+    let task = entries::LineTask {
+        feasibility: tolerances.feasibility,
+        scale: tolerances.scale,
+        autonan,
     };
-    Refusal::check(number, 0)?;
-    Ok(Bounds { high, low })
+    // SAFETY: the pointer and the length are those of one slice, which the entry only reads.
+    let got = unsafe { entries::ravelsickle_lp_1d(flat.as_ptr(), flat.len(), task) };
+    Refusal::check(got.refusal, 0)?;
+    Ok(Bounds {
+        high: got.high,
+        low: got.low,
+    })
 }
 
 /// The highest y under the rows, the rows that hold it, and the readings it took, of which `allowance` are allowed.
@@ -383,31 +358,19 @@ pub fn solve(rows: &mut [Row], task: &Task, allowance: u64) -> Result<Solved, Re
 
 /// [`solve`] of rows that lie flat, three floats to a row. Refusals 1, 2 and 3.
 pub fn solve_flat(rows: &mut [f64], task: &Task, allowance: u64) -> Result<Solved, Refusal> {
-    let mut lent = Lent::default();
-    // SAFETY: the first pointer and the length are those of one slice, lent mutably; the others lead to different numbers
-    // of this function, which all have a value.
-    let number = unsafe {
-        entries::ravelsickle_solve(
-            rows.as_mut_ptr(),
-            rows.len(),
-            task.tolerances.feasibility,
-            task.tolerances.scale,
-            task.start.x,
-            task.start.y,
-            task.start.skip,
-            task.normalize.is_on(),
-            allowance,
-            &mut lent.kind,
-            &mut lent.x,
-            &mut lent.y,
-            &mut lent.first.held,
-            &mut lent.first.row,
-            &mut lent.second.held,
-            &mut lent.second.row,
-            &mut lent.count,
-        )
+    // SAFETY: the pointer and the length are those of one slice, lent mutably.
+    let got = unsafe {
+        entries::ravelsickle_solve(rows.as_mut_ptr(), rows.len(), task.record(allowance))
     };
-    lent.solved(number)
+    Refusal::check(got.refusal, got.count)?;
+    Ok(Solved {
+        answer: Answer::of(got.kind, got.x, got.y),
+        active: (
+            row(got.has_first, got.first),
+            row(got.has_second, got.second),
+        ),
+        count: got.count,
+    })
 }
 
 /// The original's own entry: the answer of [`solve`] without allowance, active rows or count. Refusal 2.
@@ -422,26 +385,13 @@ pub fn solve_flat(rows: &mut [f64], task: &Task, allowance: u64) -> Result<Solve
 /// ```
 pub fn lp_2d_incre_max_y(rows: &mut [Row], task: &Task) -> Result<Answer, Refusal> {
     let flat = floats_mut(rows);
-    let (mut kind, mut x, mut y) = (0, 0.0, 0.0);
-    // SAFETY: the first pointer and the length are those of one slice, lent mutably; the others lead to three numbers of
-    // this function.
-    let number = unsafe {
-        entries::ravelsickle_lp_2d_incre_max_y(
-            flat.as_mut_ptr(),
-            flat.len(),
-            task.tolerances.feasibility,
-            task.tolerances.scale,
-            task.start.x,
-            task.start.y,
-            task.start.skip,
-            task.normalize.is_on(),
-            &mut kind,
-            &mut x,
-            &mut y,
-        )
-    };
-    Refusal::check(number, 0)?;
-    Ok(Answer::of(kind, x, y))
+    // the entry looks at no allowance
+    let record = task.record(u64::MAX);
+    // SAFETY: the pointer and the length are those of one slice, lent mutably.
+    let got =
+        unsafe { entries::ravelsickle_lp_2d_incre_max_y(flat.as_mut_ptr(), flat.len(), record) };
+    Refusal::check(got.refusal, 0)?;
+    Ok(Answer::of(got.kind, got.x, got.y))
 }
 
 /// A point that holds for the first `upto` rows, after a solve's usual step failed at the point `at`. The collector then
@@ -465,33 +415,24 @@ pub fn recover(
     collector: &mut Collector,
 ) -> Result<(f64, f64), Refusal> {
     let flat = floats(rows);
-    let (mut x, mut y) = (0.0, 0.0);
-    let mut first = Slot::of(collector.first);
-    let mut second = Slot::of(collector.second);
-    // SAFETY: the first pointer and the length are those of one slice, which the entry only reads; the others lead to
-    // different numbers of this function, which all have a value.
-    let number = unsafe {
-        entries::ravelsickle_recover_2d_prefix(
-            flat.as_ptr(),
-            flat.len(),
-            upto,
-            at.0,
-            at.1,
-            frame.bound,
-            frame.epsilon,
-            frame.reduced,
-            &mut x,
-            &mut y,
-            &mut first.held,
-            &mut first.row,
-            &mut second.held,
-            &mut second.row,
-        )
+    let task = entries::RecoveryTask {
+        upto,
+        x0: at.0,
+        y0: at.1,
+        bound: frame.bound,
+        epsilon: frame.epsilon,
+        reduced: frame.reduced,
+        first: collector.first.unwrap_or(0),
+        second: collector.second.unwrap_or(0),
+        has_first: collector.first.is_some(),
+        has_second: collector.second.is_some(),
     };
-    Refusal::check(number, 0)?;
-    collector.first = first.row();
-    collector.second = second.row();
-    Ok((x, y))
+    // SAFETY: the pointer and the length are those of one slice, which the entry only reads.
+    let got = unsafe { entries::ravelsickle_recover_2d_prefix(flat.as_ptr(), flat.len(), task) };
+    Refusal::check(got.refusal, 0)?;
+    collector.first = row(got.has_first, got.first);
+    collector.second = row(got.has_second, got.second);
+    Ok((got.x, got.y))
 }
 
 #[cfg(test)]
@@ -510,16 +451,16 @@ mod tests {
 
     #[test]
     fn a_kind_decides_the_answer() {
-        assert_eq!(Answer::of(0, 1.0, 2.0), Answer::Point { x: 1.0, y: 2.0 });
-        assert_eq!(Answer::of(1, 1.0, 2.0), Answer::Level { y: 2.0 });
-        assert_eq!(Answer::of(2, 1.0, 2.0), Answer::Across { x: 1.0 });
-        assert_eq!(Answer::of(3, 1.0, 2.0), Answer::Nothing);
+        assert_eq!(Answer::of(1, 1.0, 2.0), Answer::Point { x: 1.0, y: 2.0 });
+        assert_eq!(Answer::of(2, 1.0, 2.0), Answer::Level { y: 2.0 });
+        assert_eq!(Answer::of(3, 1.0, 2.0), Answer::Across { x: 1.0 });
+        assert_eq!(Answer::of(4, 1.0, 2.0), Answer::Nothing);
     }
 
     #[test]
     #[should_panic(expected = "newer than this crate")]
     fn an_unknown_kind_is_no_answer() {
-        Answer::of(4, 1.0, 2.0);
+        Answer::of(5, 1.0, 2.0);
     }
 
     #[test]
@@ -534,13 +475,9 @@ mod tests {
     }
 
     #[test]
-    fn a_slot_without_a_row_is_none_whatever_its_number() {
-        let slot = Slot {
-            held: false,
-            row: 5,
-        };
-        assert_eq!(slot.row(), None);
-        assert_eq!(Slot::of(Some(5)).row(), Some(5));
-        assert_eq!(Slot::of(None).row(), None);
+    fn a_row_without_its_flag_is_none_whatever_its_number() {
+        assert_eq!(row(false, 5), None);
+        assert_eq!(row(true, 5), Some(5));
+        assert_eq!(row(true, 0), Some(0));
     }
 }

@@ -28,6 +28,9 @@ pub enum Refusal {
     NotRecovered,
     /// 7: the prefix to recover is longer than the rows. The collector is unchanged.
     PrefixTooLong,
+    /// 10: the number for normalising names no mode of the library. Everything lent is unchanged. No call of this crate
+    /// passes such a number, unless the library is older than it.
+    NoSuchMode,
     /// A number that this crate does not know: the library is newer than it.
     Unknown(u64),
 }
@@ -47,6 +50,7 @@ impl Refusal {
             Refusal::Singular => 5,
             Refusal::NotRecovered => 6,
             Refusal::PrefixTooLong => 7,
+            Refusal::NoSuchMode => 10,
             Refusal::Unknown(number) => number,
         }
     }
@@ -61,6 +65,7 @@ impl Refusal {
             5 => Refusal::Singular,
             6 => Refusal::NotRecovered,
             7 => Refusal::PrefixTooLong,
+            10 => Refusal::NoSuchMode,
             _ => Refusal::Unknown(number),
         }
     }
@@ -86,6 +91,7 @@ impl fmt::Display for Refusal {
             Refusal::Singular => write!(f, "the two equations have no reliable crossing"),
             Refusal::NotRecovered => write!(f, "recovery found no point"),
             Refusal::PrefixTooLong => write!(f, "the prefix is longer than the rows"),
+            Refusal::NoSuchMode => write!(f, "the number for normalising names no mode"),
             Refusal::Unknown(_) => write!(f, "a number that this crate does not know"),
         }
     }
@@ -100,11 +106,12 @@ mod tests {
     #[test]
     fn every_number_has_its_refusal() {
         assert_eq!(Refusal::check(0, 9), Ok(()));
-        for number in 1..10 {
+        for number in 1..20 {
             assert_eq!(Refusal::check(number, 9).unwrap_err().number(), number);
         }
         assert_eq!(Refusal::check(3, 9), Err(Refusal::Stopped { count: 9 }));
         assert_eq!(Refusal::check(4, 9), Err(Refusal::NoReturn { count: 9 }));
+        assert_eq!(Refusal::check(10, 9), Err(Refusal::NoSuchMode));
         assert_eq!(Refusal::check(8, 9), Err(Refusal::Unknown(8)));
     }
 
