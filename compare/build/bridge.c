@@ -4,26 +4,14 @@
 
      batch: number of words, words          answer: number of words, words
 
-   A call begins with its number below and carries all that is lent to the entry; its answer carries all of it back. */
+   A call begins with its number below and carries the record given to the entry, a word to a field, and what is lent to it;
+   its answer carries the record that came back and the rows. */
 
-typedef unsigned long word;
+#include "ravelsickle.h"
 
-double ravelsickle_root(double x);
-double ravelsickle_fused(double x, double y, double z);
-word ravelsickle_normalize(double *rows, word length);
-word ravelsickle_solve_2x2(double a0, double b0, double c0, double a1, double b1, double c1, double *x, double *y);
-word ravelsickle_lp_1d(const double *pairs, word length, _Bool autonan, double feasibility, double scale, double *high,
-                       double *low);
-word ravelsickle_solve(double *rows, word length, double feasibility, double scale, double x0, double y0, word skip,
-                       _Bool normalize, word allowance, word *kind, double *x, double *y, _Bool *has_first, word *first,
-                       _Bool *has_second, word *second, word *count);
-word ravelsickle_lp_2d_incre_max_y(double *rows, word length, double feasibility, double scale, double x0, double y0,
-                                   word skip, _Bool normalize, word *kind, double *x, double *y);
-word ravelsickle_recover_2d_prefix(const double *rows, word length, word upto, double x0, double y0, double bound,
-                                   double epsilon, double reduced, double *x, double *y, _Bool *has_first, word *first,
-                                   _Bool *has_second, word *second);
+typedef uint64_t word;
 
-enum { ROOTS, FUSEDS, NORMALIZE, TWO, LINE, SOLVE, RECOVER, OWN };
+enum { ROOTS, FUSEDS, NORMALIZE, TWO, LINE, SOLVE, RECOVER, OWN, ROWS };
 
 /* A batch and its answer have at most this many words. */
 #define MOST (1ul << 21)
@@ -67,10 +55,42 @@ static void copy(word *to, const word *from, word words) {
     for (word i = 0; i < words; i++) to[i] = from[i];
 }
 
+static struct ravelsickle_row row_of(const word *q) {
+    struct ravelsickle_row row = {as_float(q[0]), as_float(q[1]), as_float(q[2])};
+    return row;
+}
+
+static struct ravelsickle_task task_of(const word *q) {
+    struct ravelsickle_task task = {as_float(q[0]), as_float(q[1]), as_float(q[2]), as_float(q[3]), q[4], q[5], q[6]};
+    return task;
+}
+
+static struct ravelsickle_recovery_task recovery_of(const word *q) {
+    struct ravelsickle_recovery_task task = {q[0],           as_float(q[1]), as_float(q[2]), as_float(q[3]), as_float(q[4]),
+                                             as_float(q[5]), q[6],           q[7],           q[8] != 0,      q[9] != 0};
+    return task;
+}
+
+static void put_answer(word *r, struct ravelsickle_answer a) {
+    r[0] = a.refusal;
+    r[1] = a.kind;
+    r[2] = as_word(a.x);
+    r[3] = as_word(a.y);
+    r[4] = a.count;
+    r[5] = a.first;
+    r[6] = a.second;
+    r[7] = a.has_first;
+    r[8] = a.has_second;
+}
+
+static void put_pair(word *r, word refusal, double x, double y) {
+    r[0] = refusal;
+    r[1] = as_word(x);
+    r[2] = as_word(y);
+}
+
 /* Answers one call; gives its length and, through `written`, that of its answer. */
 static word answer(const word *q, word *r, word *written) {
-    double x, y;
-    _Bool has_first, has_second;
     word n;
     switch (q[0]) {
     case ROOTS:
@@ -92,68 +112,53 @@ static word answer(const word *q, word *r, word *written) {
         r[0] = ravelsickle_normalize((double *)(r + 1), n);
         *written = 1 + n;
         return 2 + n;
-    case TWO:
-        x = as_float(q[7]);
-        y = as_float(q[8]);
-        r[0] = ravelsickle_solve_2x2(as_float(q[1]), as_float(q[2]), as_float(q[3]), as_float(q[4]), as_float(q[5]),
-                                     as_float(q[6]), &x, &y);
-        r[1] = as_word(x);
-        r[2] = as_word(y);
+    case TWO: {
+        struct ravelsickle_crossing c = ravelsickle_solve_2x2(row_of(q + 1), row_of(q + 4));
+        put_pair(r, c.refusal, c.x, c.y);
         *written = 3;
-        return 9;
-    case LINE:
-        n = q[6];
-        x = as_float(q[4]);
-        y = as_float(q[5]);
-        r[0] = ravelsickle_lp_1d((const double *)(q + 7), n, q[1] != 0, as_float(q[2]), as_float(q[3]), &x, &y);
-        r[1] = as_word(x);
-        r[2] = as_word(y);
+        return 7;
+    }
+    case LINE: {
+        struct ravelsickle_line_task task = {as_float(q[1]), as_float(q[2]), q[3] != 0};
+        struct ravelsickle_bounds b = ravelsickle_lp_1d((const double *)(q + 5), q[4], task);
+        put_pair(r, b.refusal, b.high, b.low);
         *written = 3;
-        return 7 + n;
+        return 5 + q[4];
+    }
     case SOLVE:
-        n = q[16];
-        copy(r + 1, q + 8, 8);
-        copy(r + 9, q + 17, n);
-        x = as_float(q[9]);
-        y = as_float(q[10]);
-        has_first = q[11] != 0;
-        has_second = q[13] != 0;
-        r[0] = ravelsickle_solve((double *)(r + 9), n, as_float(q[1]), as_float(q[2]), as_float(q[3]), as_float(q[4]),
-                                 q[5], q[6] != 0, q[7], r + 1, &x, &y, &has_first, r + 5, &has_second, r + 7, r + 8);
-        r[2] = as_word(x);
-        r[3] = as_word(y);
-        r[4] = has_first;
-        r[6] = has_second;
+        n = q[8];
+        copy(r + 9, q + 9, n);
+        put_answer(r, ravelsickle_solve((double *)(r + 9), n, task_of(q + 1)));
         *written = 9 + n;
-        return 17 + n;
-    case RECOVER:
-        n = q[13];
-        copy(r + 1, q + 7, 6);
-        x = as_float(q[7]);
-        y = as_float(q[8]);
-        has_first = q[9] != 0;
-        has_second = q[11] != 0;
-        r[0] = ravelsickle_recover_2d_prefix((const double *)(q + 14), n, q[1], as_float(q[2]), as_float(q[3]),
-                                             as_float(q[4]), as_float(q[5]), as_float(q[6]), &x, &y, &has_first, r + 4,
-                                             &has_second, r + 6);
-        r[1] = as_word(x);
-        r[2] = as_word(y);
-        r[3] = has_first;
-        r[5] = has_second;
-        *written = 7;
-        return 14 + n;
-    case OWN:
-        n = q[10];
-        r[1] = q[7];
-        copy(r + 4, q + 11, n);
-        x = as_float(q[8]);
-        y = as_float(q[9]);
-        r[0] = ravelsickle_lp_2d_incre_max_y((double *)(r + 4), n, as_float(q[1]), as_float(q[2]), as_float(q[3]),
-                                             as_float(q[4]), q[5], q[6] != 0, r + 1, &x, &y);
-        r[2] = as_word(x);
-        r[3] = as_word(y);
+        return 9 + n;
+    case ROWS:
+        n = q[8];
+        copy(r + 9, q + 9, n);
+        put_answer(r, ravelsickle_solve_rows((struct ravelsickle_row *)(r + 9), n / 3, task_of(q + 1)));
+        *written = 9 + n;
+        return 9 + n;
+    case OWN: {
+        n = q[8];
+        copy(r + 4, q + 9, n);
+        struct ravelsickle_solution s = ravelsickle_lp_2d_incre_max_y((double *)(r + 4), n, task_of(q + 1));
+        r[0] = s.refusal;
+        r[1] = s.kind;
+        r[2] = as_word(s.x);
+        r[3] = as_word(s.y);
         *written = 4 + n;
-        return 11 + n;
+        return 9 + n;
+    }
+    case RECOVER: {
+        n = q[11];
+        struct ravelsickle_recovered p = ravelsickle_recover_2d_prefix((const double *)(q + 12), n, recovery_of(q + 1));
+        put_pair(r, p.refusal, p.x, p.y);
+        r[3] = p.first;
+        r[4] = p.second;
+        r[5] = p.has_first;
+        r[6] = p.has_second;
+        *written = 7;
+        return 12 + n;
+    }
     }
     stop(2);
     return 0;

@@ -20,13 +20,26 @@ fn stop(message: &str) -> ! {
     exit(1);
 }
 
+fn package() -> PathBuf {
+    PathBuf::from(env::var("CARGO_MANIFEST_DIR").expect("cargo gives the package's folder"))
+}
+
+/// The folder of the original, which only whoever builds knows.
+fn original_folder() -> PathBuf {
+    println!("cargo:rerun-if-env-changed=COMPARE_ORIGINAL");
+    match env::var("COMPARE_ORIGINAL") {
+        Ok(given) => package().join(given),
+        Err(_) => stop(
+            "COMPARE_ORIGINAL names no folder of the original (`compare/run --original FOLDER` sets it)",
+        ),
+    }
+}
+
 /// A path that the environment gives, or its default, which is meant from the folder of this package.
 fn path_from(variable: &str, default: &str) -> PathBuf {
     println!("cargo:rerun-if-env-changed={variable}");
     let given = env::var(variable).unwrap_or_else(|_| default.to_string());
-    let package =
-        PathBuf::from(env::var("CARGO_MANIFEST_DIR").expect("cargo gives the package's folder"));
-    package.join(given)
+    package().join(given)
 }
 
 fn read_text(path: &Path) -> String {
@@ -88,6 +101,29 @@ fn library() -> PathBuf {
     library
 }
 
+/// The kernel's symbols, from the archive's own index: a first member named `/`, whose text is a number of places, the
+/// places, and the names, each ended by a zero.
+fn symbols(archive: &[u8]) -> Vec<String> {
+    const HEAD: usize = 8 + 60;
+    let indexed = archive.starts_with(b"!<arch>\n/ ") && archive.len() > HEAD + 4;
+    let size = |bytes: &[u8]| String::from_utf8_lossy(bytes).trim().parse::<usize>();
+    let Some(Ok(length)) = indexed.then(|| size(&archive[8 + 48..8 + 58])) else {
+        stop("the static library has no index of its symbols");
+    };
+    let index = &archive[HEAD..archive.len().min(HEAD + length)];
+    let places = u32::from_be_bytes([index[0], index[1], index[2], index[3]]) as usize;
+    let names = index.get(4 + 4 * places..).unwrap_or_default();
+    let found: Vec<String> = names
+        .split(|&byte| byte == 0)
+        .map(|name| String::from_utf8_lossy(name).into_owned())
+        .filter(|name| name.starts_with("ravelsickle_"))
+        .collect();
+    if found.is_empty() {
+        stop("the static library has no symbol of the kernel");
+    }
+    found
+}
+
 /// On x86-64 the library is linked into the programs.
 fn link_kernel(library: &Path) {
     println!("cargo:rustc-cfg=direct");
@@ -119,6 +155,7 @@ fn build_bridge(library: &Path, out: &Path) {
             "-fuse-ld=lld",
             "-Wall",
             "-Wextra",
+            "-I../bindings/c",
             "-o",
         ])
         .arg(&bridge)
@@ -141,7 +178,7 @@ fn main() {
     let any_text = env::var("COMPARE_ANY_TEXT").is_ok_and(|v| v == "1");
     let out =
         PathBuf::from(env::var("OUT_DIR").expect("cargo gives a folder for what is generated"));
-    let folder = path_from("COMPARE_ORIGINAL", "../../shared/docs/src").join("src/math/numerical");
+    let folder = original_folder().join("src/math/numerical");
 
     let (lp, lp_sum) = original_text(&folder.join("lp.rs"), LP_SUM, any_text);
     let (general, general_sum) = original_text(&folder.join("general.rs"), GENERAL_SUM, any_text);
@@ -171,6 +208,10 @@ fn main() {
     println!(
         "cargo:rustc-env=COMPARE_LIBRARY_SUM={}",
         sha256::sum(&bytes)
+    );
+    println!(
+        "cargo:rustc-env=COMPARE_LIBRARY_SYMBOLS={}",
+        symbols(&bytes).join(",")
     );
     let here = env::var("CARGO_CFG_TARGET_ARCH").unwrap_or_default();
     if here == "x86_64" || env::var("COMPARE_DIRECT").is_ok_and(|v| v == "1") {

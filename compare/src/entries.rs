@@ -4,11 +4,12 @@ use std::panic::{AssertUnwindSafe, catch_unwind};
 
 use crate::batch::{self, Kind};
 use crate::counted;
-use crate::kernel::{Call, Held, Kernel, Pair};
+use crate::kernel::{Call, Kernel};
 use crate::original::{self, Recovered, Recovery};
+use crate::records::{LineSetting, Pair, Record, RecoveredPoint};
 use crate::report::{Verdict, differs_on_line, hex, hex_all, row_text};
 use crate::rng::Rng;
-use crate::same::{is_settled, same, same_settled};
+use crate::same::{same, same_settled};
 use crate::solves;
 use crate::task::{Row, Task, flat};
 use crate::values;
@@ -85,30 +86,24 @@ fn two_rows(rng: &mut Rng) -> (Row, Row) {
     (first, second)
 }
 
-/// Whether an entry left the pair that the original gives, or refused with its number where the original gives none.
-fn same_pair(wanted: Option<(f64, f64)>, none: u64, refusal: u64, got: &Pair) -> bool {
+/// Whether an entry answered the pair that the original gives, or refused with this number where the original gives none.
+fn same_pair(wanted: Option<(f64, f64)>, none: u64, got: &Pair) -> bool {
     match wanted {
-        None => refusal == none && got.is_unwritten(),
-        Some((x, y)) => {
-            refusal == 0
-                && same(x, got.x)
-                && same(y, got.y)
-                && is_settled(got.x)
-                && is_settled(got.y)
-        }
+        None => got.same_words(&Pair::refused(none)),
+        Some((x, y)) => got.refusal == 0 && same_settled(&[x, y], &[got.x, got.y]),
     }
 }
 
 fn judge_two(first: Row, second: Row, calls: &[Call]) -> Result<(), String> {
-    let [Call::Two { out, refusal, .. }] = calls else {
+    let [Call::Two { out, .. }] = calls else {
         return Err("not a call of the system".to_string());
     };
     let wanted = original::solve_2x2(first, second);
-    if same_pair(wanted, 5, *refusal, out) {
+    if same_pair(wanted, 5, out) {
         return Ok(());
     }
     Err(format!(
-        "the system gives refusal {refusal}, {} {}; the original {wanted:?}",
+        "the system gives {out:?}, {} {}; the original {wanted:?}",
         hex(out.x),
         hex(out.y)
     ))
@@ -119,7 +114,7 @@ pub fn systems(kernel: &mut Kernel, rng: &mut Rng, cases: u64) -> Verdict {
         at_once: AT_ONCE,
         draw: &|rng, _| {
             let (first, second) = two_rows(rng);
-            let call = Call::two([first.0, first.1, first.2], [second.0, second.1, second.2]);
+            let call = Call::two(first, second);
             ((first, second), vec![call])
         },
         judge: &|&(first, second), calls| judge_two(first, second, calls),
@@ -163,9 +158,7 @@ fn pairs(rng: &mut Rng) -> Vec<(f64, f64)> {
 /// What `lp_1d` is given.
 pub(crate) struct Line {
     pub(crate) pairs: Vec<(f64, f64)>,
-    pub(crate) autonan: bool,
-    pub(crate) feasibility: f64,
-    pub(crate) scale: f64,
+    pub(crate) setting: LineSetting,
 }
 
 impl Line {
@@ -180,25 +173,30 @@ impl Line {
             1 => 1e-3,
             _ => 1e-9,
         };
-        Line {
-            pairs,
-            autonan: case.is_multiple_of(2),
+        let setting = LineSetting {
             feasibility,
             scale: number(rng),
-        }
+            autonan: case.is_multiple_of(2),
+        };
+        Line { pairs, setting }
     }
 
     pub(crate) fn judge(&self, calls: &[Call]) -> Result<(), String> {
-        let [Call::Line { out, refusal, .. }] = calls else {
+        let [Call::Line { out, .. }] = calls else {
             return Err("not a call of lp_1d".to_string());
         };
-        let feasibility = values::as_original_takes_it(self.feasibility);
-        let wanted = original::lp_1d(&self.pairs, self.autonan, feasibility, self.scale);
-        if same_pair(Some(wanted), 0, *refusal, out) {
+        let feasibility = values::as_original_takes_it(self.setting.feasibility);
+        let wanted = original::lp_1d(
+            &self.pairs,
+            self.setting.autonan,
+            feasibility,
+            self.setting.scale,
+        );
+        if same_pair(Some(wanted), 0, out) {
             return Ok(());
         }
         Err(format!(
-            "lp_1d gives refusal {refusal}, {} {}; the original {wanted:?}",
+            "lp_1d gives {out:?}, {} {}; the original {wanted:?}",
             hex(out.x),
             hex(out.y)
         ))
@@ -210,12 +208,13 @@ pub fn lines(kernel: &mut Kernel, rng: &mut Rng, cases: u64) -> Verdict {
         at_once: AT_ONCE,
         draw: &|rng, case| {
             let line = Line::draw(rng, case);
-            let call = Call::line(line.flat(), line.autonan, line.feasibility, line.scale);
+            let call = Call::line(line.flat(), line.setting);
             (line, vec![call])
         },
         judge: &Line::judge,
         tell: &|line: &Line, what| {
-            let setting = format!("{} {}", u8::from(line.autonan), hex(line.feasibility));
+            let given = &line.setting;
+            let setting = format!("{} {}", u8::from(given.autonan), hex(given.feasibility));
             let pairs = format!("{} {}", line.pairs.len(), hex_all(&line.flat()));
             differs_on_line(what, format!("line {setting} {pairs}"))
         },
@@ -331,32 +330,22 @@ fn original_recovery(rows: &[Row], given: &Recovery) -> Result<Option<Recovered>
     }
 }
 
-fn judge_recover(rows: &[Row], given: &Recovery, calls: &[Call]) -> Result<(), String> {
-    let [
-        Call::Recover {
-            out, held, refusal, ..
-        },
-    ] = calls
-    else {
+pub(crate) fn judge_recover(rows: &[Row], given: &Recovery, calls: &[Call]) -> Result<(), String> {
+    let [Call::Recover { out, .. }] = calls else {
         return Err("not a call of recovery".to_string());
     };
-    let before = Held::of(given.first, given.second);
-    let wanted = original_recovery(rows, given)?;
-    let right = match wanted {
-        None => *refusal == 7 && out.is_unwritten() && *held == before,
-        Some((None, ..)) => *refusal == 6 && out.is_unwritten() && *held == before,
-        Some((point, first, second)) => {
-            same_pair(point, 6, *refusal, out)
-                && held.rows() == (first, second)
-                && (held.has_first || held.first == before.first)
-                && (held.has_second || held.second == before.second)
-        }
+    let before = (given.first, given.second);
+    let original = original_recovery(rows, given)?;
+    let wanted = match original {
+        None => RecoveredPoint::of(7, None, before),
+        Some((None, ..)) => RecoveredPoint::of(6, None, before),
+        Some((point, first, second)) => RecoveredPoint::of(0, point, (first, second)),
     };
-    if right {
+    if out.same(&wanted) {
         return Ok(());
     }
     Err(format!(
-        "recovery gives refusal {refusal}, {} {} and {held:?}; the original {wanted:?}",
+        "recovery gives {out:?}, {} {}; the original {original:?}",
         hex(out.x),
         hex(out.y)
     ))
@@ -379,7 +368,7 @@ pub fn recoveries(kernel: &mut Kernel, rng: &mut Rng, cases: u64) -> Verdict {
         at_once: AT_ONCE,
         draw: &|rng, _| {
             let (rows, given) = recovery(rng);
-            let call = Call::recover(flat(&rows), given);
+            let call = Call::recover(flat(&rows), &given);
             ((rows, given), vec![call])
         },
         judge: &|(rows, given): &(Vec<Row>, Recovery), calls| judge_recover(rows, given, calls),

@@ -1,8 +1,8 @@
 //! The entries of the kernel's static library, called in batches.
 //!
 //! On x86-64 the library is linked and called directly. On another processor it runs in a program of its own under an
-//! emulator, and a batch goes there and back through pipes. Either way a call carries all that is lent to the entry, and
-//! holds afterwards what the entry left of it.
+//! emulator, and a batch goes there and back through pipes. Either way a call carries the rows lent to the entry and the record
+//! given to it, and holds afterwards what the entry left in the rows and the record that it answered.
 
 #[cfg(not(direct))]
 mod bridge;
@@ -14,139 +14,34 @@ use bridge as back;
 #[cfg(direct)]
 use direct as back;
 
+use std::collections::BTreeSet;
+use std::sync::Mutex;
+
 use crate::original::Recovery;
+use crate::records::{
+    LineSetting, Pair, Plane, Record, RecoveredPoint, RecoverySetting, Setting, Solution, Solved,
+};
 use crate::rng::Rng;
-use crate::task::Task;
+use crate::task::Row;
 
 /// The SHA-256 of the static library that was linked.
 pub const LIBRARY_SUM: &str = env!("COMPARE_LIBRARY_SUM");
 
-/// A NaN with a payload of its own, which no entry answers.
-const UNWRITTEN_FLOAT: u64 = 0x7FFA_5A5A_1234_4321;
-const UNWRITTEN_NUMBER: u64 = 0x5A5A_5A5A_0F0F_0F0F;
+/// The symbols that the library has for its callers, with a comma between them.
+const LIBRARY_SYMBOLS: &str = env!("COMPARE_LIBRARY_SYMBOLS");
 
-/// A pair of numbers that an entry writes its answer to.
-#[derive(Clone, Copy, Debug)]
-pub struct Pair {
-    pub x: f64,
-    pub y: f64,
+/// The symbols that were called so far.
+static CALLED: Mutex<BTreeSet<&'static str>> = Mutex::new(BTreeSet::new());
+
+/// How many symbols the library has, and which of them nothing called.
+pub fn uncalled_symbols() -> (usize, Vec<&'static str>) {
+    let called = CALLED.lock().expect("no thread fails while it notes calls");
+    let all: Vec<&str> = LIBRARY_SYMBOLS.split(',').collect();
+    let uncalled = all.iter().filter(|name| !called.contains(*name));
+    (all.len(), uncalled.copied().collect())
 }
 
-impl Pair {
-    /// Numbers that no entry answers, so that one which was not written can be told.
-    pub fn unwritten() -> Pair {
-        Pair {
-            x: f64::from_bits(UNWRITTEN_FLOAT),
-            y: f64::from_bits(UNWRITTEN_FLOAT),
-        }
-    }
-
-    pub fn is_unwritten(&self) -> bool {
-        self.x.to_bits() == UNWRITTEN_FLOAT && self.y.to_bits() == UNWRITTEN_FLOAT
-    }
-}
-
-/// The collector as it is lent to recovery, and the active rows as a solve writes them.
-#[derive(Clone, Copy, Debug, PartialEq, Eq)]
-pub struct Held {
-    pub has_first: bool,
-    pub first: usize,
-    pub has_second: bool,
-    pub second: usize,
-}
-
-impl Held {
-    pub fn of(first: Option<usize>, second: Option<usize>) -> Held {
-        Held {
-            has_first: first.is_some(),
-            first: first.unwrap_or(UNWRITTEN_NUMBER as usize),
-            has_second: second.is_some(),
-            second: second.unwrap_or(UNWRITTEN_NUMBER as usize),
-        }
-    }
-
-    /// Flags that say "row", so that an entry which has none must write them.
-    pub fn unwritten() -> Held {
-        Held {
-            has_first: true,
-            first: UNWRITTEN_NUMBER as usize,
-            has_second: true,
-            second: UNWRITTEN_NUMBER as usize,
-        }
-    }
-
-    pub fn rows(&self) -> (Option<usize>, Option<usize>) {
-        (
-            self.has_first.then_some(self.first),
-            self.has_second.then_some(self.second),
-        )
-    }
-}
-
-/// What a solve writes.
-#[derive(Clone, Copy, Debug)]
-pub struct Solved {
-    /// 0 point, 1 level, 2 across, 3 nothing.
-    pub kind: u64,
-    pub at: Pair,
-    pub held: Held,
-    pub count: u64,
-}
-
-impl Solved {
-    pub fn unwritten() -> Solved {
-        Solved {
-            kind: UNWRITTEN_NUMBER,
-            at: Pair::unwritten(),
-            held: Held::unwritten(),
-            count: UNWRITTEN_NUMBER,
-        }
-    }
-
-    /// Whether the answer's kind and numbers are as they were before the call.
-    pub fn answer_unwritten(&self) -> bool {
-        self.kind == UNWRITTEN_NUMBER && self.at.is_unwritten()
-    }
-
-    /// Whether the number of a row that there is not was left as it was before the call.
-    pub fn absent_rows_unwritten(&self) -> bool {
-        (self.held.has_first || self.held.first == UNWRITTEN_NUMBER as usize)
-            && (self.held.has_second || self.held.second == UNWRITTEN_NUMBER as usize)
-    }
-
-    /// Whether nothing at all was written.
-    pub fn is_unwritten(&self) -> bool {
-        self.answer_unwritten() && self.held == Held::unwritten() && self.count == UNWRITTEN_NUMBER
-    }
-}
-
-/// What a solve is given besides its rows.
-#[derive(Clone, Copy, Debug)]
-pub struct Setting {
-    pub feasibility: f64,
-    pub scale: f64,
-    pub x0: f64,
-    pub y0: f64,
-    pub skip: usize,
-    pub normalize: bool,
-    pub allowance: u64,
-}
-
-impl Setting {
-    pub fn of(task: &Task, allowance: u64) -> Setting {
-        Setting {
-            feasibility: task.feasibility,
-            scale: task.scale,
-            x0: task.x0,
-            y0: task.y0,
-            skip: task.skip,
-            normalize: task.normalize,
-            allowance,
-        }
-    }
-}
-
-/// A call of one entry, before it is made and after. `refusal` is what the entry returns: 0 or the refusal's number.
+/// A call of one entry, before it is made and after.
 #[derive(Clone, Debug)]
 pub enum Call {
     Roots {
@@ -162,44 +57,47 @@ pub enum Call {
         refusal: u64,
     },
     Two {
-        first: [f64; 3],
-        second: [f64; 3],
+        first: Plane,
+        second: Plane,
         out: Pair,
-        refusal: u64,
     },
-    /// The highest value is written to `out.x`, the lowest to `out.y`.
+    /// The highest value comes as `out.x`, the lowest as `out.y`.
     Line {
         pairs: Vec<f64>,
-        autonan: bool,
-        feasibility: f64,
-        scale: f64,
+        setting: LineSetting,
         out: Pair,
-        refusal: u64,
     },
     Solve {
         rows: Vec<f64>,
         setting: Setting,
         out: Solved,
-        refusal: u64,
     },
-    /// The source's own entry: it writes kind and numbers alone, and has no allowance.
-    Own {
+    /// The solve over row records: the same memory, lent as whole rows.
+    Rows {
         rows: Vec<f64>,
         setting: Setting,
         out: Solved,
-        refusal: u64,
+    },
+    /// The source's own entry, which looks at no allowance.
+    Own {
+        rows: Vec<f64>,
+        setting: Setting,
+        out: Solution,
     },
     Recover {
         rows: Vec<f64>,
-        given: Recovery,
-        out: Pair,
-        held: Held,
-        refusal: u64,
+        setting: RecoverySetting,
+        out: RecoveredPoint,
     },
 }
 
-/// What `refusal` is before a call is made.
-const NOT_CALLED: u64 = u64::MAX;
+fn plane(row: Row) -> Plane {
+    Plane {
+        a: row.0,
+        b: row.1,
+        c: row.2,
+    }
+}
 
 impl Call {
     pub fn roots(given: Vec<f64>) -> Call {
@@ -219,27 +117,23 @@ impl Call {
     pub fn normalize(rows: Vec<f64>) -> Call {
         Call::Normalize {
             rows,
-            refusal: NOT_CALLED,
+            refusal: u64::MAX,
         }
     }
 
-    pub fn two(first: [f64; 3], second: [f64; 3]) -> Call {
+    pub fn two(first: Row, second: Row) -> Call {
         Call::Two {
-            first,
-            second,
-            out: Pair::unwritten(),
-            refusal: NOT_CALLED,
+            first: plane(first),
+            second: plane(second),
+            out: Pair::uncalled(),
         }
     }
 
-    pub fn line(pairs: Vec<f64>, autonan: bool, feasibility: f64, scale: f64) -> Call {
+    pub fn line(pairs: Vec<f64>, setting: LineSetting) -> Call {
         Call::Line {
             pairs,
-            autonan,
-            feasibility,
-            scale,
-            out: Pair::unwritten(),
-            refusal: NOT_CALLED,
+            setting,
+            out: Pair::uncalled(),
         }
     }
 
@@ -247,8 +141,15 @@ impl Call {
         Call::Solve {
             rows,
             setting,
-            out: Solved::unwritten(),
-            refusal: NOT_CALLED,
+            out: Solved::uncalled(),
+        }
+    }
+
+    pub fn rows(rows: Vec<f64>, setting: Setting) -> Call {
+        Call::Rows {
+            rows,
+            setting,
+            out: Solved::uncalled(),
         }
     }
 
@@ -256,18 +157,30 @@ impl Call {
         Call::Own {
             rows,
             setting,
-            out: Solved::unwritten(),
-            refusal: NOT_CALLED,
+            out: Solution::uncalled(),
         }
     }
 
-    pub fn recover(rows: Vec<f64>, given: Recovery) -> Call {
+    pub fn recover(rows: Vec<f64>, given: &Recovery) -> Call {
         Call::Recover {
             rows,
-            given,
-            out: Pair::unwritten(),
-            held: Held::of(given.first, given.second),
-            refusal: NOT_CALLED,
+            setting: RecoverySetting::of(given),
+            out: RecoveredPoint::uncalled(),
+        }
+    }
+
+    /// The library's symbol that the call is made to.
+    fn symbol(&self) -> &'static str {
+        match self {
+            Call::Roots { .. } => "ravelsickle_root",
+            Call::Fuseds { .. } => "ravelsickle_fused",
+            Call::Normalize { .. } => "ravelsickle_normalize",
+            Call::Two { .. } => "ravelsickle_solve_2x2",
+            Call::Line { .. } => "ravelsickle_lp_1d",
+            Call::Solve { .. } => "ravelsickle_solve",
+            Call::Rows { .. } => "ravelsickle_solve_rows",
+            Call::Own { .. } => "ravelsickle_lp_2d_incre_max_y",
+            Call::Recover { .. } => "ravelsickle_recover_2d_prefix",
         }
     }
 }
@@ -298,6 +211,10 @@ impl Kernel {
     /// Makes the calls in order.
     pub fn make(&mut self, calls: &mut [Call]) -> Result<(), String> {
         self.back.make(calls)?;
+        CALLED
+            .lock()
+            .expect("no thread fails while it notes calls")
+            .extend(calls.iter().map(Call::symbol));
         if let Some(rng) = &mut self.spoil
             && !calls.is_empty()
         {
@@ -308,32 +225,26 @@ impl Kernel {
     }
 }
 
-/// Changes the lowest bit of a float.
-fn spoil_float(x: &mut f64) {
-    *x = f64::from_bits(x.to_bits() ^ 1);
-}
-
 fn spoil_one_of(numbers: &mut [f64], rng: &mut Rng) {
     if !numbers.is_empty() {
         let at = rng.size(0, numbers.len() - 1);
-        spoil_float(&mut numbers[at]);
+        numbers[at] = f64::from_bits(numbers[at].to_bits() ^ 1);
     }
 }
 
-fn spoil_pair(pair: &mut Pair, rng: &mut Rng) {
-    spoil_float(if rng.once_in(2) {
-        &mut pair.x
-    } else {
-        &mut pair.y
-    });
+/// Changes the lowest bit of one field.
+fn spoil_record<R: Record>(record: &mut R, rng: &mut Rng) {
+    let mut words = record.words();
+    words[rng.size(0, R::WORDS - 1)] ^= 1;
+    *record = R::of_words(&words);
 }
 
-fn spoil_held(held: &mut Held, rng: &mut Rng) {
-    match rng.below(4) {
-        0 => held.has_first = !held.has_first,
-        1 => held.first ^= 1,
-        2 => held.has_second = !held.has_second,
-        _ => held.second ^= 1,
+/// Changes the lowest bit of one float of the rows, or of one field of the answer.
+fn spoil_either<R: Record>(rows: &mut [f64], record: &mut R, rng: &mut Rng) {
+    if rows.is_empty() || !rng.once_in(4) {
+        spoil_record(record, rng);
+    } else {
+        spoil_one_of(rows, rng);
     }
 }
 
@@ -348,34 +259,11 @@ fn spoil(call: &mut Call, rng: &mut Rng) {
                 spoil_one_of(rows, rng);
             }
         }
-        Call::Two { out, refusal, .. } | Call::Line { out, refusal, .. } => match rng.below(3) {
-            0 => *refusal ^= 1,
-            _ => spoil_pair(out, rng),
-        },
-        Call::Solve {
-            rows, out, refusal, ..
-        } => match rng.below(6) {
-            0 => *refusal ^= 1,
-            1 => out.kind ^= 1,
-            2 => spoil_pair(&mut out.at, rng),
-            3 => spoil_held(&mut out.held, rng),
-            4 if !rows.is_empty() => spoil_one_of(rows, rng),
-            _ => out.count ^= 1,
-        },
-        Call::Own {
-            rows, out, refusal, ..
-        } => match rng.below(4) {
-            0 => *refusal ^= 1,
-            1 => out.kind ^= 1,
-            2 if !rows.is_empty() => spoil_one_of(rows, rng),
-            _ => spoil_pair(&mut out.at, rng),
-        },
-        Call::Recover {
-            out, held, refusal, ..
-        } => match rng.below(3) {
-            0 => *refusal ^= 1,
-            1 => spoil_pair(out, rng),
-            _ => spoil_held(held, rng),
-        },
+        Call::Two { out, .. } | Call::Line { out, .. } => spoil_record(out, rng),
+        Call::Solve { rows, out, .. } | Call::Rows { rows, out, .. } => {
+            spoil_either(rows, out, rng)
+        }
+        Call::Own { rows, out, .. } => spoil_either(rows, out, rng),
+        Call::Recover { out, .. } => spoil_record(out, rng),
     }
 }

@@ -20,6 +20,7 @@ pub mod floats;
 pub mod kernel;
 pub mod original;
 pub mod probe;
+pub mod records;
 pub mod refusals;
 pub mod report;
 pub mod rng;

@@ -20,7 +20,7 @@ const USAGE: &str = "compare [options]
   --threads N        threads (2)
   --only NAME        the families whose name begins so
   --list             the families and their sizes
-  --vectors FOLDER   records.bin and records.out, or stdin and stdout
+  --vectors FOLDER   records.bin and records.out, or stdin and stdout (else RAVELSICKLE_VECTORS, else the repository's own)
   --rowrun PROGRAM   the program that is fed damaged streams
   --no-rowrun        leave the program out
   --no-vectors       leave the vectors out
@@ -40,18 +40,21 @@ struct Options {
     spoil: bool,
 }
 
-/// Where the vectors lie, from the root of the repository, unless a folder is given.
-const VECTORS: [&str; 2] = ["crates/rowrun", "../shared/vectors"];
+/// Where the repository's own vectors and program lie, from its root.
+const VECTORS: &str = "crates/rowrun";
 const ROWRUN: &str = "target/bin/rowrun";
+/// The variable that names another folder of vectors.
+const VECTORS_FROM: &str = "RAVELSICKLE_VECTORS";
 
 fn repository() -> PathBuf {
     PathBuf::from(env!("CARGO_MANIFEST_DIR")).join("..")
 }
 
 fn default_vectors() -> PathBuf {
-    let folders = VECTORS.map(|folder| repository().join(folder));
-    let there = folders.iter().find(|folder| folder.join("stdin").is_file());
-    there.unwrap_or(&folders[1]).clone()
+    match env::var_os(VECTORS_FROM) {
+        Some(folder) if !folder.is_empty() => folder.into(),
+        _ => repository().join(VECTORS),
+    }
 }
 
 fn parse_options() -> Result<Options, String> {
@@ -256,6 +259,19 @@ fn say_branches(by: &str, all: bool) {
     }
 }
 
+/// Says which of the library's symbols no family called; whether there is none.
+fn say_symbols() -> bool {
+    let (all, uncalled) = kernel::uncalled_symbols();
+    println!(
+        "symbols of the library called: {} of {all}",
+        all - uncalled.len()
+    );
+    for name in &uncalled {
+        eprintln!("never called: {name}");
+    }
+    uncalled.is_empty()
+}
+
 fn say_text() {
     println!("original lp.rs      SHA-256 {}", original::LP_SUM);
     println!("original general.rs SHA-256 {}", original::GENERAL_SUM);
@@ -366,6 +382,9 @@ fn main() -> ExitCode {
     say_family("total", total, 0, since);
     if checked.only.is_empty() || checked.branches {
         say_branches("everything", checked.branches);
+    }
+    if checked.only.is_empty() && !say_symbols() {
+        return ExitCode::FAILURE;
     }
     if missing {
         eprintln!(

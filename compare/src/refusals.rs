@@ -1,12 +1,15 @@
-//! Refusals 1, 2 and 7 of the library's entries, which leave all that was lent as it was.
+//! Refusals 1, 2 and 10 of the library's entries, which leave all that was lent as it was; and, beside refusal 2, that every
+//! entry takes 4,096 rows or pairs and does with them what the original does.
 
 use crate::batch::{self, Drawn, Kind};
-use crate::entries::{Line, judge_normalize};
-use crate::kernel::{Call, Held, Kernel, Setting};
+use crate::entries::{Line, judge_normalize, judge_recover};
+use crate::kernel::{Call, Kernel};
 use crate::original::Recovery;
+use crate::records::{LineSetting, Pair, Record, RecoveredPoint, Setting, Solution, Solved};
 use crate::report::{Verdict, differs_on_line, hex_all};
 use crate::rng::Rng;
 use crate::same::same_bits;
+use crate::solves::{self, Trial};
 use crate::task::{Row, Task};
 use crate::values;
 
@@ -49,32 +52,71 @@ fn lent(rng: &mut Rng, length: usize) -> Vec<f64> {
     floats
 }
 
+/// The entries that a number of rows, or pairs, is lent to.
+const ENTRIES: [&str; 6] = [
+    "solve",
+    "recover",
+    "lp_1d",
+    "normalize",
+    "lp_2d_incre_max_y",
+    "solve_rows",
+];
+
+/// The floats to a row of an entry, or to a pair.
+fn width_of(entry: &str) -> usize {
+    if entry == "lp_1d" { 2 } else { 3 }
+}
+
 /// What one call was lent, and the refusal it must get.
 struct Lent {
     entry: &'static str,
     floats: Vec<f64>,
     wanted: u64,
+    /// Where nothing is refused and the call is a solve: what the original does.
+    trial: Option<Trial>,
 }
 
-fn draw_solve(rng: &mut Rng, floats: Vec<f64>, own: bool) -> Call {
+/// A number that names no mode of normalising, at times one whose lowest byte or word does.
+fn no_mode(rng: &mut Rng) -> u64 {
+    rng.pick(&[
+        2,
+        3,
+        255,
+        256,
+        257,
+        1 << 32,
+        (1 << 32) + 1,
+        1 << 63,
+        u64::MAX,
+    ])
+}
+
+/// With `mode`, the number for normalising; else one that names a mode.
+fn draw_setting(rng: &mut Rng, mode: Option<u64>) -> Setting {
     let task = Task {
         skip: rng.size(0, 3),
         normalize: rng.once_in(2),
         ..Task::plain()
     };
-    let allowance = rng.pick(&[0, 1, u64::MAX]);
-    let setting = Setting::of(&task, allowance);
-    if own {
-        Call::own(floats, setting)
-    } else {
-        Call::solve(floats, setting)
+    let plain = Setting::of(&task, rng.pick(&[0, 1, u64::MAX]));
+    Setting {
+        normalize: mode.unwrap_or(plain.normalize),
+        ..plain
     }
 }
 
-/// Prefixes within the rows and past them: refusals 1 and 2 come before 7.
-fn draw_recover(rng: &mut Rng, floats: Vec<f64>) -> Call {
-    let given = Recovery {
-        upto: rng.pick(&[0, 1, floats.len() / 3 + 1, usize::MAX]),
+fn line_setting(rng: &mut Rng) -> LineSetting {
+    LineSetting {
+        feasibility: 1e-9,
+        scale: 10.0,
+        autonan: rng.once_in(2),
+    }
+}
+
+/// A recovery of the prefix, whose collector holds one row.
+fn recovery(upto: usize) -> Recovery {
+    Recovery {
+        upto,
         x: 0.0,
         y: 1.0,
         bound: 1e6,
@@ -82,93 +124,128 @@ fn draw_recover(rng: &mut Rng, floats: Vec<f64>) -> Call {
         reduced: 1e-8,
         first: Some(3),
         second: None,
-    };
-    Call::recover(floats, given)
+    }
 }
 
-/// A call that is refused, or seldom one with just as many rows or pairs as allowed, which is not.
-fn draw(rng: &mut Rng, case: u64) -> Drawn<Lent> {
-    let most = matches!(case % 997, 2 | 3);
-    let width = if case % 5 == 2 { 2 } else { 3 };
-    let length = if most {
-        width * MOST_ROWS
+fn draw_call(rng: &mut Rng, entry: &str, floats: Vec<f64>, mode: Option<u64>) -> Call {
+    match entry {
+        "solve" => Call::solve(floats, draw_setting(rng, mode)),
+        "solve_rows" => Call::rows(floats, draw_setting(rng, mode)),
+        "lp_2d_incre_max_y" => Call::own(floats, draw_setting(rng, mode)),
+        "lp_1d" => Call::line(floats, line_setting(rng)),
+        "normalize" => Call::normalize(floats),
+        // Prefixes within the rows and past them: refusals 1 and 2 come before 7.
+        _ => {
+            let upto = rng.pick(&[0, 1, floats.len() / 3 + 1, usize::MAX]);
+            Call::recover(floats, &recovery(upto))
+        }
+    }
+}
+
+/// A call that is refused for its number of floats, or for its number for normalising: the first goes before the second.
+fn draw_refused(rng: &mut Rng, entry: &'static str) -> Drawn<Lent> {
+    let solves = matches!(entry, "solve" | "solve_rows" | "lp_2d_incre_max_y");
+    let mode = (solves && rng.once_in(2)).then(|| no_mode(rng));
+    let width = width_of(entry);
+    let mut length = if mode.is_some() && rng.once_in(2) {
+        width * rng.pick(&[0, 1, 2, 5, 64, 65, MOST_ROWS])
     } else {
         refused_length(rng, width)
     };
-    let floats = lent(rng, length);
-    let own = floats.clone();
-    let (entry, call) = match case % 5 {
-        0 if !most => ("solve", draw_solve(rng, own, false)),
-        4 if !most => ("lp_2d_incre_max_y", draw_solve(rng, own, true)),
-        1 if !most => ("recover", draw_recover(rng, own)),
-        2 => ("lp_1d", Call::line(own, rng.once_in(2), 1e-9, 10.0)),
-        _ => ("normalize", Call::normalize(own)),
+    if entry == "solve_rows" && !length.is_multiple_of(width) {
+        length = width * (MOST_ROWS + 1);
+    }
+    let wanted = match wanted(length, width) {
+        0 => 10,
+        number => number,
     };
+    let floats = lent(rng, length);
+    let call = draw_call(rng, entry, floats.clone(), mode);
     let lent = Lent {
         entry,
         floats,
-        wanted: wanted(length, width),
+        wanted,
+        trial: None,
     };
     (lent, vec![call])
 }
 
-/// The refusal that a call got, and whether all that was lent to it is as it was.
-fn outcome(lent: &Lent, call: &Call) -> (u64, bool) {
+/// A call with just as many rows or pairs as allowed.
+fn draw_most(rng: &mut Rng, entry: &'static str) -> Drawn<Lent> {
+    let solve = matches!(entry, "solve" | "solve_rows" | "lp_2d_incre_max_y");
+    let task = Task {
+        rows: solves::planner_rows(rng, MOST_ROWS),
+        normalize: rng.once_in(2),
+        ..Task::plain()
+    };
+    let (floats, calls, trial) = if solve {
+        let floats = task.flat();
+        let (trial, calls) = solves::every_form(task);
+        (floats, calls, Some(trial))
+    } else if entry == "recover" {
+        let call = Call::recover(task.flat(), &recovery(MOST_ROWS));
+        (task.flat(), vec![call], None)
+    } else {
+        let floats = lent(rng, width_of(entry) * MOST_ROWS);
+        let call = draw_call(rng, entry, floats.clone(), None);
+        (floats, vec![call], None)
+    };
+    let lent = Lent {
+        entry,
+        floats,
+        wanted: 0,
+        trial,
+    };
+    (lent, calls)
+}
+
+/// Seldom a call that is taken, since it costs as much as a thousand that are refused.
+fn draw(rng: &mut Rng, case: u64) -> Drawn<Lent> {
+    let entry = ENTRIES[(case % 6) as usize];
+    if matches!(case % 997, 2 | 3) {
+        draw_most(rng, entry)
+    } else {
+        draw_refused(rng, entry)
+    }
+}
+
+/// Whether a call was refused with that number, and left all that was lent to it as it was.
+fn is_refused(lent: &Lent, call: &Call) -> bool {
+    let number = lent.wanted;
     match call {
-        Call::Solve {
-            rows, out, refusal, ..
+        Call::Solve { rows, out, .. } | Call::Rows { rows, out, .. } => {
+            out.same_words(&Solved::refused(number, 0)) && same_bits(&lent.floats, rows)
         }
-        | Call::Own {
-            rows, out, refusal, ..
-        } => (
-            *refusal,
-            out.is_unwritten() && same_bits(&lent.floats, rows),
-        ),
-        Call::Normalize { rows, refusal } => (*refusal, same_bits(&lent.floats, rows)),
-        Call::Line { out, refusal, .. } => (*refusal, out.is_unwritten()),
-        Call::Recover {
-            given,
-            out,
-            held,
-            refusal,
-            ..
-        } => (
-            *refusal,
-            out.is_unwritten() && *held == Held::of(given.first, given.second),
-        ),
-        _ => (u64::MAX, false),
+        Call::Own { rows, out, .. } => {
+            out.same_words(&Solution::refused(number)) && same_bits(&lent.floats, rows)
+        }
+        Call::Normalize { rows, refusal } => *refusal == number && same_bits(&lent.floats, rows),
+        Call::Line { out, .. } => out.same_words(&Pair::refused(number)),
+        Call::Recover { out, .. } => {
+            out.same_words(&RecoveredPoint::of(number, None, (Some(3), None)))
+        }
+        _ => false,
     }
 }
 
 /// With just as many rows or pairs as allowed, an entry must do what the original does.
 fn judge_accepted(lent: &Lent, calls: &[Call]) -> Result<(), String> {
-    match &calls[0] {
-        Call::Line {
-            autonan,
-            feasibility,
-            scale,
-            ..
-        } => {
+    let rows = || -> Vec<Row> {
+        let (planes, _) = lent.floats.as_chunks::<3>();
+        planes.iter().map(|&[a, b, c]| (a, b, c)).collect()
+    };
+    match (&calls[0], &lent.trial) {
+        (_, Some(trial)) => solves::judge(trial, calls),
+        (Call::Line { setting, .. }, _) => {
+            let (pairs, _) = lent.floats.as_chunks::<2>();
             let line = Line {
-                pairs: lent
-                    .floats
-                    .chunks_exact(2)
-                    .map(|pair| (pair[0], pair[1]))
-                    .collect(),
-                autonan: *autonan,
-                feasibility: *feasibility,
-                scale: *scale,
+                pairs: pairs.iter().map(|&[a, b]| (a, b)).collect(),
+                setting: *setting,
             };
             line.judge(calls)
         }
-        _ => {
-            let rows: Vec<Row> = lent
-                .floats
-                .chunks_exact(3)
-                .map(|row| (row[0], row[1], row[2]))
-                .collect();
-            judge_normalize(&rows, calls)
-        }
+        (Call::Recover { .. }, _) => judge_recover(&rows(), &recovery(MOST_ROWS), calls),
+        _ => judge_normalize(&rows(), calls),
     }
 }
 
@@ -176,15 +253,16 @@ fn judge(lent: &Lent, calls: &[Call]) -> Result<(), String> {
     if lent.wanted == 0 {
         return judge_accepted(lent, calls);
     }
-    let (got, untouched) = outcome(lent, &calls[0]);
-    if got == lent.wanted && untouched {
+    if is_refused(lent, &calls[0]) {
         return Ok(());
     }
+    let told: String = format!("{:?}", calls[0]).chars().rev().take(300).collect();
     Err(format!(
-        "{} with {} floats: refusal {got} in place of {}, all lent unchanged: {untouched}",
+        "{} with {} floats: not refusal {} with all lent unchanged, but {}",
         lent.entry,
         lent.floats.len(),
-        lent.wanted
+        lent.wanted,
+        told.chars().rev().collect::<String>()
     ))
 }
 

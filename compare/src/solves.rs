@@ -4,9 +4,10 @@ use std::panic::{AssertUnwindSafe, catch_unwind};
 
 use crate::batch::{self, Drawn, Kind};
 use crate::counted;
-use crate::kernel::{Call, Kernel, Setting, Solved};
+use crate::kernel::{Call, Kernel};
 use crate::original::{self, Answer};
 use crate::probe::Run;
+use crate::records::{Record, Setting, Solution, Solved};
 use crate::report::{Difference, Verdict, differs_on_records, hex, row_text};
 use crate::rng::Rng;
 use crate::same::{is_settled, same, same_bits, same_settled};
@@ -76,13 +77,13 @@ fn check_silent(task: &Task, expected: &Expected) -> Result<(), String> {
     }
 }
 
-/// 0 point, 1 level, 2 across, 3 nothing.
+/// 1 point, 2 level, 3 across, 4 nothing.
 pub fn kind_of(x: f64, y: f64) -> u64 {
     match (x.is_nan(), y.is_nan()) {
-        (false, false) => 0,
-        (true, false) => 1,
-        (false, true) => 2,
-        (true, true) => 3,
+        (false, false) => 1,
+        (true, false) => 2,
+        (false, true) => 3,
+        (true, true) => 4,
     }
 }
 
@@ -110,18 +111,24 @@ fn judge_answer(
     task: &Task,
     expected: &Expected,
     rows: &[f64],
-    got: &Solved,
+    got: &Solution,
 ) -> Result<(), String> {
     let answer = &expected.answer;
-    let at = got.at;
-    if got.kind != kind_of(answer.x, answer.y) || !same(at.x, answer.x) || !same(at.y, answer.y) {
+    if got.refusal != 0 {
+        return Err(format!("refusal {} in place of an answer", got.refusal));
+    }
+    if got.kind != kind_of(answer.x, answer.y) || !same(got.x, answer.x) || !same(got.y, answer.y) {
         return Err(format!(
             "answer kind {} ({:?}, {:?}); the original's is ({:?}, {:?})",
-            got.kind, at.x, at.y, answer.x, answer.y
+            got.kind, got.x, got.y, answer.x, answer.y
         ));
     }
-    if !is_settled(at.x) || !is_settled(at.y) {
-        return Err(format!("a NaN of other bits: {} {}", hex(at.x), hex(at.y)));
+    if !is_settled(got.x) || !is_settled(got.y) {
+        return Err(format!(
+            "a NaN of other bits: {} {}",
+            hex(got.x),
+            hex(got.y)
+        ));
     }
     if expected.run.normalisations == 0 {
         check_rows(task, 0, rows)
@@ -139,10 +146,16 @@ fn judge_finished(
     rows: &[f64],
     got: &Solved,
 ) -> Result<(), String> {
-    judge_answer(task, expected, rows, got)?;
+    let numbers = Solution {
+        refusal: got.refusal,
+        kind: got.kind,
+        x: got.x,
+        y: got.y,
+    };
+    judge_answer(task, expected, rows, &numbers)?;
     let answer = &expected.answer;
-    if got.held.rows() != (answer.first, answer.second) {
-        let (first, second) = got.held.rows();
+    if got.rows() != (answer.first, answer.second) {
+        let (first, second) = got.rows();
         return Err(format!(
             "active rows {} {}; the original's are {} {}",
             row_text(first),
@@ -151,8 +164,8 @@ fn judge_finished(
             row_text(answer.second)
         ));
     }
-    if !got.absent_rows_unwritten() {
-        return Err("the number of a row that there is not was written".to_string());
+    if !got.absent_rows_are_zero() {
+        return Err("a row that there is not has a number".to_string());
     }
     if got.count != expected.run.readings {
         return Err(format!(
@@ -163,7 +176,8 @@ fn judge_finished(
     Ok(())
 }
 
-/// The solve must have stopped, and left what document 01 says.
+/// The solve must have stopped, with the allowance as its count and nothing else in its answer, and left the rows as after
+/// the last normalisation that fitted.
 fn judge_stopped(
     task: &Task,
     run: &Run,
@@ -171,14 +185,8 @@ fn judge_stopped(
     rows: &[f64],
     got: &Solved,
 ) -> Result<(), String> {
-    if got.count != allowance {
-        return Err(format!("count {} in place of the allowance", got.count));
-    }
-    if got.held.has_first || got.held.has_second || !got.absent_rows_unwritten() {
-        return Err("active rows left".to_string());
-    }
-    if !got.answer_unwritten() {
-        return Err("an answer written".to_string());
+    if !got.same_words(&Solved::refused(3, allowance)) {
+        return Err(format!("{got:?} in place of refusal 3"));
     }
     let fitted = run.normalised_at[..run.normalisations]
         .iter()
@@ -187,45 +195,36 @@ fn judge_stopped(
     check_rows(task, fitted, rows)
 }
 
-/// The source's own entry answers the same, without active rows and count.
-fn judge_own(
+/// Judges a call of the solve, finished or stopped by its allowance.
+fn judge_solve(
     task: &Task,
     expected: &Expected,
-    refusal: u64,
     rows: &[f64],
+    allowance: u64,
     out: &Solved,
 ) -> Result<(), String> {
-    if refusal != 0 {
-        return Err(format!("refusal {refusal} of the source's own entry"));
-    }
-    judge_answer(task, expected, rows, out)
-        .map_err(|what| format!("{what} (the source's own entry)"))
+    let count = expected.run.readings;
+    let judged = if count > allowance {
+        judge_stopped(task, &expected.run, allowance, rows, out)
+    } else {
+        judge_finished(task, expected, rows, out)
+    };
+    judged.map_err(|what| format!("{what} (allowance {allowance}, count {count})"))
 }
 
-/// Judges a call of the solve, finished or stopped by its allowance.
 fn judge_call(task: &Task, expected: &Expected, call: &Call) -> Result<(), String> {
-    let (rows, setting, out, refusal) = match call {
-        Call::Solve {
-            rows,
-            setting,
-            out,
-            refusal,
-        } => (rows, setting, out, refusal),
-        Call::Own {
-            rows, out, refusal, ..
-        } => return judge_own(task, expected, *refusal, rows, out),
-        _ => return Err("not a solve".to_string()),
-    };
-    let count = expected.run.readings;
-    let wanted = if count > setting.allowance { 3 } else { 0 };
-    let judged = if *refusal != wanted {
-        Err(format!("refusal {refusal} in place of {wanted}"))
-    } else if wanted == 0 {
-        judge_finished(task, expected, rows, out)
-    } else {
-        judge_stopped(task, &expected.run, setting.allowance, rows, out)
-    };
-    judged.map_err(|what| format!("{what} (allowance {}, count {count})", setting.allowance))
+    match call {
+        Call::Solve { rows, setting, out } => {
+            judge_solve(task, expected, rows, setting.allowance, out)
+        }
+        Call::Rows { rows, setting, out } => {
+            judge_solve(task, expected, rows, setting.allowance, out)
+                .map_err(|what| format!("{what} (over row records)"))
+        }
+        Call::Own { rows, out, .. } => judge_answer(task, expected, rows, out)
+            .map_err(|what| format!("{what} (the source's own entry)")),
+        _ => Err("not a solve".to_string()),
+    }
 }
 
 /// Allowances at the count, about it and below it, and at the edges of normalisations, where rows change.
@@ -265,11 +264,26 @@ fn trial(task: Task, allowances: bool, rng: &mut Rng) -> Drawn<Trial> {
         .collect();
     if allowances {
         calls.push(Call::own(task.flat(), Setting::of(&task, 0)));
+        calls.push(Call::rows(task.flat(), Setting::of(&task, ENOUGH)));
+        let last = given[given.len() - 1];
+        calls.push(Call::rows(task.flat(), Setting::of(&task, last)));
     }
     (Trial { task, expected }, calls)
 }
 
-fn judge(trial: &Trial, calls: &[Call]) -> Result<(), String> {
+/// A task that every form of the solve takes, each with all the readings that it needs.
+pub(crate) fn every_form(task: Task) -> Drawn<Trial> {
+    let expected = expect(&task);
+    let setting = Setting::of(&task, ENOUGH);
+    let calls = vec![
+        Call::solve(task.flat(), setting),
+        Call::rows(task.flat(), setting),
+        Call::own(task.flat(), setting),
+    ];
+    (Trial { task, expected }, calls)
+}
+
+pub(crate) fn judge(trial: &Trial, calls: &[Call]) -> Result<(), String> {
     let expected = trial.expected.as_ref().map_err(String::clone)?;
     calls
         .iter()

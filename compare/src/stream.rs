@@ -88,9 +88,9 @@ fn answer_text(expected: &Expected) -> String {
         expected.run.readings
     );
     match kind_of(answer.x, answer.y) {
-        0 => format!("point {} {} {rows}", hex(answer.x), hex(answer.y)),
-        1 => format!("level {} {rows}", hex(answer.y)),
-        2 => format!("across {} {rows}", hex(answer.x)),
+        1 => format!("point {} {} {rows}", hex(answer.x), hex(answer.y)),
+        2 => format!("level {} {rows}", hex(answer.y)),
+        3 => format!("across {} {rows}", hex(answer.x)),
         _ => format!("nothing {rows}"),
     }
 }

@@ -11,7 +11,8 @@ use std::env;
 use std::hint::black_box;
 use std::process::ExitCode;
 
-use compare::kernel::{Call, Kernel, Setting};
+use compare::kernel::{Call, Kernel};
+use compare::records::Setting;
 use compare::rng::Rng;
 use compare::same::same;
 use compare::solves::{ENOUGH, grid, planner_rows};
@@ -140,10 +141,10 @@ fn check_answers(case: &Case) -> Result<(), String> {
     Kernel::new()?.make(&mut calls)?;
     for (task, call) in case.tasks.iter().zip(&calls) {
         let wanted = original::solve(&mut task.rows.clone(), task);
-        let Call::Solve { out, refusal, .. } = call else {
+        let Call::Solve { out, .. } = call else {
             continue;
         };
-        if *refusal != 0 || !same(out.at.x, wanted.x) || !same(out.at.y, wanted.y) {
+        if out.refusal != 0 || !same(out.x, wanted.x) || !same(out.y, wanted.y) {
             return Err(format!("{}: the two sides answer differently", case.name));
         }
     }
@@ -175,7 +176,7 @@ mod timed {
     use std::time::Instant;
 
     use super::*;
-    use compare::kernel::{Solved, direct};
+    use compare::kernel::direct;
     use compare::values;
 
     unsafe extern "C" {
@@ -208,13 +209,10 @@ mod timed {
     fn run_kernel(instances: &mut [Flat]) {
         for instance in instances {
             instance.rows.copy_from_slice(&instance.pristine);
-            let mut out = Solved::unwritten();
             black_box(direct::solve(
                 black_box(&mut instance.rows),
-                &instance.setting,
-                &mut out,
+                instance.setting,
             ));
-            black_box(out);
         }
     }
 

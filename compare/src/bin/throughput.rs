@@ -103,20 +103,20 @@ mod solves {
     use std::hint::black_box;
     use std::time::Instant;
 
-    use compare::kernel::{Setting, Solved, direct};
+    use compare::kernel::direct;
+    use compare::records::Setting;
     use compare::task::Task;
 
     /// The seconds that the solves of the records take, each of rows that are restored first.
     pub fn seconds(tasks: &[Task], records: usize) -> f64 {
         let flat: Vec<Vec<f64>> = tasks.iter().map(Task::flat).collect();
         let mut rows = flat[0].clone();
-        let mut out = Solved::unwritten();
         let begun = Instant::now();
         for number in 0..records {
             let place = number % tasks.len();
             rows.copy_from_slice(&flat[place]);
             let setting = Setting::of(&tasks[place], super::ALLOWANCE);
-            black_box(direct::solve(black_box(&mut rows), &setting, &mut out));
+            black_box(direct::solve(black_box(&mut rows), setting));
         }
         begun.elapsed().as_secs_f64()
     }

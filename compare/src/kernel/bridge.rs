@@ -4,7 +4,8 @@ use std::env;
 use std::io::{Read, Write};
 use std::process::{Child, ChildStdin, ChildStdout, Command, Stdio};
 
-use super::{Call, Held, Pair};
+use super::Call;
+use crate::records::Record;
 
 /// The numbers of the calls, as `bridge.c` has them.
 const ROOTS: u64 = 0;
@@ -15,6 +16,7 @@ const LINE: u64 = 4;
 const SOLVE: u64 = 5;
 const RECOVER: u64 = 6;
 const OWN: u64 = 7;
+const ROWS: u64 = 8;
 
 /// Batches are cut so that neither they nor their answers come near the bridge's limit of 2^21 words.
 const MOST_WORDS: usize = 1 << 20;
@@ -35,13 +37,6 @@ fn push_rows(words: &mut Vec<u64>, rows: &[f64]) {
     push_floats(words, rows);
 }
 
-fn push_held(words: &mut Vec<u64>, held: &Held) {
-    words.push(u64::from(held.has_first));
-    words.push(held.first as u64);
-    words.push(u64::from(held.has_second));
-    words.push(held.second as u64);
-}
-
 /// Adds a call's words to a batch.
 fn push_call(words: &mut Vec<u64>, call: &Call) {
     match call {
@@ -57,74 +52,24 @@ fn push_call(words: &mut Vec<u64>, call: &Call) {
             words.push(NORMALIZE);
             push_rows(words, rows);
         }
-        Call::Two {
-            first, second, out, ..
-        } => {
+        Call::Two { first, second, .. } => {
             words.push(TWO);
-            push_floats(words, first);
-            push_floats(words, second);
-            push_floats(words, &[out.x, out.y]);
+            words.extend(first.words());
+            words.extend(second.words());
         }
-        Call::Line {
-            pairs,
-            autonan,
-            feasibility,
-            scale,
-            out,
-            ..
-        } => {
-            words.extend([LINE, u64::from(*autonan)]);
-            push_floats(words, &[*feasibility, *scale, out.x, out.y]);
-            push_rows(words, pairs);
-        }
-        Call::Solve {
-            rows, setting, out, ..
-        } => {
-            words.push(SOLVE);
-            push_floats(
-                words,
-                &[setting.feasibility, setting.scale, setting.x0, setting.y0],
-            );
-            words.extend([
-                setting.skip as u64,
-                u64::from(setting.normalize),
-                setting.allowance,
-                out.kind,
-            ]);
-            push_floats(words, &[out.at.x, out.at.y]);
-            push_held(words, &out.held);
-            words.push(out.count);
-            push_rows(words, rows);
-        }
-        Call::Own {
-            rows, setting, out, ..
-        } => {
-            words.push(OWN);
-            push_floats(
-                words,
-                &[setting.feasibility, setting.scale, setting.x0, setting.y0],
-            );
-            words.extend([setting.skip as u64, u64::from(setting.normalize), out.kind]);
-            push_floats(words, &[out.at.x, out.at.y]);
-            push_rows(words, rows);
-        }
-        Call::Recover {
-            rows,
-            given,
-            out,
-            held,
-            ..
-        } => {
-            words.extend([RECOVER, given.upto as u64]);
-            push_floats(
-                words,
-                &[given.x, given.y, given.bound, given.epsilon, given.reduced],
-            );
-            push_floats(words, &[out.x, out.y]);
-            push_held(words, held);
-            push_rows(words, rows);
-        }
+        Call::Line { pairs, setting, .. } => push_task(words, LINE, setting, pairs),
+        Call::Solve { rows, setting, .. } => push_task(words, SOLVE, setting, rows),
+        Call::Rows { rows, setting, .. } => push_task(words, ROWS, setting, rows),
+        Call::Own { rows, setting, .. } => push_task(words, OWN, setting, rows),
+        Call::Recover { rows, setting, .. } => push_task(words, RECOVER, setting, rows),
     }
+}
+
+/// A call's number, its record and what is lent to it.
+fn push_task<R: Record>(words: &mut Vec<u64>, number: u64, setting: &R, rows: &[f64]) {
+    words.push(number);
+    words.extend(setting.words());
+    push_rows(words, rows);
 }
 
 /// The words of an answer, taken one after the other.
@@ -148,20 +93,9 @@ impl Answers<'_> {
         (0..count).map(|_| self.float()).collect()
     }
 
-    fn pair(&mut self) -> Result<Pair, String> {
-        Ok(Pair {
-            x: self.float()?,
-            y: self.float()?,
-        })
-    }
-
-    fn held(&mut self) -> Result<Held, String> {
-        Ok(Held {
-            has_first: self.word()? != 0,
-            first: self.word()? as usize,
-            has_second: self.word()? != 0,
-            second: self.word()? as usize,
-        })
+    fn record<R: Record>(&mut self) -> Result<R, String> {
+        let words: Result<Vec<u64>, String> = (0..R::WORDS).map(|_| self.word()).collect();
+        words.map(|words| R::of_words(&words))
     }
 
     /// Puts what an entry left into its call.
@@ -173,35 +107,16 @@ impl Answers<'_> {
                 *refusal = self.word()?;
                 *rows = self.floats(rows.len())?;
             }
-            Call::Two { out, refusal, .. } | Call::Line { out, refusal, .. } => {
-                *refusal = self.word()?;
-                *out = self.pair()?;
-            }
-            Call::Solve {
-                rows, out, refusal, ..
-            } => {
-                *refusal = self.word()?;
-                out.kind = self.word()?;
-                out.at = self.pair()?;
-                out.held = self.held()?;
-                out.count = self.word()?;
+            Call::Two { out, .. } | Call::Line { out, .. } => *out = self.record()?,
+            Call::Solve { rows, out, .. } | Call::Rows { rows, out, .. } => {
+                *out = self.record()?;
                 *rows = self.floats(rows.len())?;
             }
-            Call::Own {
-                rows, out, refusal, ..
-            } => {
-                *refusal = self.word()?;
-                out.kind = self.word()?;
-                out.at = self.pair()?;
+            Call::Own { rows, out, .. } => {
+                *out = self.record()?;
                 *rows = self.floats(rows.len())?;
             }
-            Call::Recover {
-                out, held, refusal, ..
-            } => {
-                *refusal = self.word()?;
-                *out = self.pair()?;
-                *held = self.held()?;
-            }
+            Call::Recover { out, .. } => *out = self.record()?,
         }
         Ok(())
     }
