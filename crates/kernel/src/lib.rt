@@ -227,6 +227,7 @@ fn answered(a: Answer) -> SourceSolved
     }
 }
 
+// No answer at all.
 fn refused(number: u64) -> SourceSolved
     ensures { λ s. ⌜ s ≡ refused number ⌝ }
 {
@@ -238,6 +239,7 @@ fn refused(number: u64) -> SourceSolved
     }
 }
 
+// The same with the count and the active rows.
 fn with_rows(s: SourceSolved, count: u64, act: Active) -> Solved
     ensures { λ r. ⌜ r ≡ withRows s count act ⌝ }
 {
@@ -256,12 +258,14 @@ fn with_rows(s: SourceSolved, count: u64, act: Active) -> Solved
     }
 }
 
+// A refusal has no active rows.
 fn unsolved(number: u64, count: u64) -> Solved
     ensures { λ s. ⌜ s ≡ unsolved number count ⌝ }
 {
     with_rows(refused(number), count, line::no_rows())
 }
 
+// Refusals 1 and 2 have no count.
 fn solved_of(got: Outcome) -> Solved
     ensures { λ s. ⌜ s ≡ solved got ⌝ }
 {
@@ -315,10 +319,10 @@ pub extern "C" fn ravelsickle_solve_2x2(r: Row, s: Row) -> Crossed
 {
     let got = rows::solve_2x2(r, s);
     match got {
-        Crossing::At(p) => Crossed {
+        Crossing::At(at) => Crossed {
             refusal: 0,
-            x: p.x,
-            y: p.y,
+            x: at.x,
+            y: at.y,
         },
         Crossing::Refused(number) => Crossed {
             refusal: number,

@@ -1,4 +1,5 @@
 -- `kernel::ravelsickle_lp_1d` meets its contract.
+use mathlib.Core.Path.{sym, ap, _∙_}
 use borrow.Author.Needs.{needs}
 use Rattle.kernel.specs.Records.{bounded}
 use Rattle.kernel.specs.Kernel.{lineBounds}
@@ -22,13 +23,13 @@ nan-requires-2 c κs = search needs
 
 returns : tie.Need-returns
 unfolding lineBounds bounded
-returns c =
-    rw (← c .before .before .before .lp-1d .ensures, c .before .got .given .1)
+returns c = ap bounded (sym (c .before .got .given .1) ∙ c .before .before .before .lp-1d .ensures)
 
 returns-2 : tie.Need-returns-2
 unfolding lineBounds bounded
 returns-2 c =
-    rw (← c .before .before .before .before .before .lp-1d .ensures, c .before .before .before .got2 .given .1, c .before .nan .ensures, c .nan2 .ensures)
+    let told = c .before .before .before in
+    rw (c .before .nan .ensures, c .nan2 .ensures) (ap bounded (sym (told .got2 .given .1) ∙ told .before .before .lp-1d .ensures))
 
 pub ravelsickle-lp-1d-spec : {M : Type 1} → statement M
 ravelsickle-lp-1d-spec =

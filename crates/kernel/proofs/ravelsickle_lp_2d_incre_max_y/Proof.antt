@@ -1,5 +1,5 @@
 -- `kernel::ravelsickle_lp_2d_incre_max_y` meets its contract.
-use mathlib.Core.Path.{sym, _∙_}
+use mathlib.Core.Path.{sym, ap, _∙_}
 use borrow.Author.Needs.{needs}
 use denote.Ref.{now}
 use Rattle.solve.specs.Solve.{silent}
@@ -47,7 +47,7 @@ returns-2 c =
     let args = tested .before .before .before .args in
     let e = source-solves (args .task) (now (args .rows)) (sym (tested .before .no-mode .ensures) ∙ tested .if1 .left) in
     let t = call .before .task-of .ensures in
-    (rw (e, ← t, ← call .lp-2d-incre-max-y .ensures .0) (c .source-of .ensures), rw (e, ← t) (call .lp-2d-incre-max-y .ensures .1))
+    (rw (e, ← t) (c .source-of .ensures ∙ ap source (call .lp-2d-incre-max-y .ensures .0)), rw (e, ← t) (call .lp-2d-incre-max-y .ensures .1))
 
 pub ravelsickle-lp-2d-incre-max-y-spec : {M : Type 1} → statement M
 ravelsickle-lp-2d-incre-max-y-spec =

@@ -1,5 +1,5 @@
 -- `kernel::ravelsickle_solve` meets its contract.
-use mathlib.Core.Path.{sym, _∙_}
+use mathlib.Core.Path.{sym, ap, _∙_}
 use borrow.Author.Needs.{needs}
 use denote.Ref.{now}
 use Rattle.kernel.specs.Records.{solved}
@@ -46,7 +46,7 @@ returns-2 c =
     let args = tested .before .before .before .args in
     let e = solving-solves (args .task) (now (args .rows)) (sym (tested .before .no-mode .ensures) ∙ tested .if1 .left) in
     let t = call .before .task-of .ensures in
-    (rw (e, ← t, ← call .solve .ensures .0) (c .solved-of .ensures), rw (e, ← t) (call .solve .ensures .1))
+    (rw (e, ← t) (c .solved-of .ensures ∙ ap solved (call .solve .ensures .0)), rw (e, ← t) (call .solve .ensures .1))
 
 pub ravelsickle-solve-spec : {M : Type 1} → statement M
 ravelsickle-solve-spec =

@@ -1,4 +1,5 @@
 -- `kernel::ravelsickle_solve_2x2` meets its contract.
+use mathlib.Core.Path.{sym, ap, _∙_}
 use borrow.Author.Needs.{needs}
 use Rattle.kernel.specs.Records.{crossed}
 use Rattle.kernel.proofs.ravelsickle_solve_2x2.Statement.{statement}
@@ -21,13 +22,13 @@ nan-requires-2 c κs = search needs
 
 returns : tie.Need-returns
 unfolding crossed
-returns c =
-    rw (← c .before .before .before .solve-2x2 .ensures, c .before .got .given .1)
+returns c = ap crossed (sym (c .before .got .given .1) ∙ c .before .before .before .solve-2x2 .ensures)
 
 returns-2 : tie.Need-returns-2
 unfolding crossed
 returns-2 c =
-    rw (← c .before .before .before .before .before .solve-2x2 .ensures, c .before .before .before .got2 .given .1, c .before .nan .ensures, c .nan2 .ensures)
+    let told = c .before .before .before in
+    rw (c .before .nan .ensures, c .nan2 .ensures) (ap crossed (sym (told .got2 .given .1) ∙ told .before .before .solve-2x2 .ensures))
 
 pub ravelsickle-solve-2x2-spec : {M : Type 1} → statement M
 ravelsickle-solve-2x2-spec =
