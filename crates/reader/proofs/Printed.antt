@@ -9,7 +9,7 @@ use lib.Dec.{ltb, eqb·suc-zero}
 use borrow.Author.Tests.{lt-ltb, le-ltb}
 use lib.ListN.{length, take, drop, length-drop}
 use Rattle.float.specs.Operators.{if_then_else_}
-use Rattle.lines.specs.Lines.{outcomeLine}
+use Rattle.text.specs.Lines.{outcomeLine}
 use Rattle.record.specs.Record.{size, outcome}
 use Rattle.reader.specs.Stream.{whole, ending, printed, output}
 use Rattle.reader.specs.Reader.{lastText}

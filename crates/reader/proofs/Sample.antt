@@ -7,8 +7,8 @@ use Prim.Native.String.{String, [], _∷_}
 use lib.ListN.{replicate}
 use mathlib.Core.List.{_++_}
 use Rattle.float.specs.Operators.{if_then_else_}
-use Rattle.lines.specs.Text.{glyph, decimalWithin, decimal}
-use Rattle.lines.specs.Lines.{refusedWord, numberWord, refusalWords, outcomeWords, outcomeLine, endLine}
+use Rattle.text.specs.Text.{glyph, decimalWithin, decimal}
+use Rattle.text.specs.Lines.{refusedWord, numberWord, refusalWords, outcomeWords, outcomeLine, endLine}
 use Rattle.record.specs.Bytes.{little, field}
 use Rattle.record.specs.Record.{bodyLength, kind, size, normalizeByte, refusal, outcome}
 use Rattle.reader.specs.Stream.{whole, ending, printed, output}

@@ -8,9 +8,9 @@ use lib.ListN.{length, length-append}
 use Rattle.float.specs.Operators.{if_then_else_}
 use Rattle.solve.specs.declared.Outcome.{Outcome}
 use Rattle.solve.specs.declared.Outcome.the-variants.{Refused}
-use Rattle.lines.specs.Lines.{outcomeLine, endLine}
-use Rattle.lines.proofs.Decimal.{decimal-length}
-use Rattle.lines.proofs.Lengths.{number-length, outcome-length}
+use Rattle.text.specs.Lines.{outcomeLine, endLine}
+use Rattle.text.proofs.Decimal.{decimal-length}
+use Rattle.text.proofs.Lengths.{number-length, outcome-length}
 use Rattle.record.specs.Record.{outcome}
 use Rattle.reader.specs.declared.Reader.{Reader}
 use Rattle.reader.specs.Reader.{unfinished, heldAfter, passedOn, text, lastText}

@@ -9,7 +9,7 @@ use native.Mathlib.Omega.{arith}
 use lib.ListN.{length, take, drop, length-append, length-drop, take-append-drop}
 use lib.Seq.{take-append-le, take-length}
 use Rattle.float.specs.Operators.{if_then_else_}
-use Rattle.lines.specs.Lines.{outcomeLine}
+use Rattle.text.specs.Lines.{outcomeLine}
 use Rattle.record.specs.Record.{size, outcome}
 use Rattle.reader.specs.Stream.{whole}
 use Rattle.reader.specs.declared.Reader.{Reader}

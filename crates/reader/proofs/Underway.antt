@@ -9,7 +9,7 @@ use native.Mathlib.Omega.{arith}
 use lib.ListN.{length, drop, length-append}
 use lib.Seq.{take-append-le, drop-append-le, drop-append-add, drop-length}
 use Rattle.solve.specs.declared.Outcome.{Outcome}
-use Rattle.lines.specs.Lines.{outcomeLine}
+use Rattle.text.specs.Lines.{outcomeLine}
 use Rattle.record.specs.Record.{size, outcome}
 use Rattle.reader.specs.Stream.{whole}
 use Rattle.reader.specs.declared.Reader.{Reader}

@@ -7,7 +7,7 @@ use lib.ListN.{length, drop}
 use lib.Seq.{paste}
 use Rattle.float.specs.Operators.{if_then_else_}
 use Rattle.solve.specs.declared.Outcome.the-variants.{Refused}
-use Rattle.lines.specs.Lines.{outcomeLine, endLine}
+use Rattle.text.specs.Lines.{outcomeLine, endLine}
 use Rattle.record.specs.Record.{bodyLength, kind, size, refusal, outcome}
 use Rattle.reader.specs.declared.Reader.{Reader}
 

@@ -6,7 +6,7 @@ use lib.Dec.{ltb}
 use lib.ListN.{length, take, drop}
 use Rattle.float.specs.Operators.{if_then_else_}
 use Rattle.solve.specs.declared.Outcome.the-variants.{Refused}
-use Rattle.lines.specs.Lines.{outcomeLine, endLine}
+use Rattle.text.specs.Lines.{outcomeLine, endLine}
 use Rattle.record.specs.Record.{size, outcome}
 
 -- the first record is all there

@@ -5,7 +5,7 @@ ghost use mathlib.Core.Path.{_≡_};
 ghost use Prim.Native.Nat.{_+_, _≤_, _<_, _^_, min};
 ghost use lib.ListN.{length};
 ghost use lib.Seq.{paste};
-ghost use Rattle.lines.specs.Text.{written};
+ghost use Rattle.text.specs.Text.{written};
 ghost use Rattle.reader.specs.Reader.{kept, unfinished, toHeader, heldHeader, toBody, heldBody, taken, heldAfter, readerAfter, text, lastText};
 
 pub struct Reader {
@@ -43,7 +43,7 @@ fn copy(src: &[u8], held: &mut [u8; 49207], to: usize, n: usize)
     requires { ⌜ to + n ≤ 49207 ⌝ }
     ensures { λ _. ⌜ now (held .exit) ≡ paste (now (held .entry)) to (now (src .entry)) n ⌝ }
 {
-    lines::put(held, to, &src[..n]);
+    text::put(held, to, &src[..n]);
 }
 
 fn kept_of(held: &[u8; 49207]) -> usize
@@ -143,7 +143,7 @@ pub fn turn(
     }
     let number = reader.lines + 1;
     let got = record::outcome_of(held, floats);
-    let end = lines::put_line(out, at, number, got);
+    let end = text::put_line(out, at, number, got);
     let next = Reader {
         lines: number,
         passed: 0,
@@ -163,9 +163,9 @@ pub fn finish(reader: Reader, out: &mut [u8], at: usize) -> usize
     ensures out { λ _. ⌜ now (out .exit) ≡ written (now (out .entry)) at (lastText reader) ⌝ }
 {
     if reader.passed == 0 {
-        return lines::put_end(out, at, reader.lines);
+        return text::put_end(out, at, reader.lines);
     }
     let number = reader.lines + 1;
-    let end = lines::put_line(out, at, number, Outcome::Refused(8));
-    lines::put_end(out, end, number)
+    let end = text::put_line(out, at, number, Outcome::Refused(8));
+    text::put_end(out, end, number)
 }

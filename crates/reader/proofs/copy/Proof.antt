@@ -4,7 +4,7 @@ use native.Mathlib.Omega.{arith}
 use lib.ListN.{length-take}
 use lib.Seq.{length-take-le}
 use denote.Ref.{now}
-use Rattle.lines.specs.Text.{written}
+use Rattle.text.specs.Text.{written}
 use Rattle.reader.proofs.copy.Statement.{statement}
 use Rattle.reader.proofs.copy.Tie as tie
 

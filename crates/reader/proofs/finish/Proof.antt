@@ -7,8 +7,8 @@ use lib.ListN.{length}
 use denote.Ref.{now}
 use Rattle.float.specs.Operators.{if_then_else_}
 use Rattle.solve.specs.declared.Outcome.the-variants.{Refused}
-use Rattle.lines.specs.Lines.{outcomeLine, endLine}
-use Rattle.lines.proofs.Written.{then-put}
+use Rattle.text.specs.Lines.{outcomeLine, endLine}
+use Rattle.text.proofs.Written.{then-put}
 use Rattle.reader.specs.Reader.{lastText}
 use Rattle.reader.proofs.Texts.{line-length, end-length}
 use Rattle.reader.proofs.finish.Statement.{statement}
