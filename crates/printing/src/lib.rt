@@ -54,10 +54,10 @@ pub fn print_portion(
                 written: false,
             };
         }
-        let turned = reader::turn(now, held, floats, &portion[from..], out, next);
-        now = turned.reader;
-        from += turned.taken;
-        at = turned.at;
+        let took = reader::turn(now, held, floats, &portion[from..], out, next);
+        now = took.reader;
+        from += took.taken;
+        at = took.at;
     }
     let written = io::write_all(libc::STDOUT_FILENO, &out[..at]);
     Progress {

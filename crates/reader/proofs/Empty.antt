@@ -10,7 +10,7 @@ use Rattle.float.specs.Operators.{if_then_else_}
 use Rattle.reader.specs.declared.Reader.{Reader}
 use Rattle.reader.specs.Reader.{kept, unfinished, toHeader, heldHeader, toBody, heldBody, taken, heldAfter, passedOn, readerAfter, text}
 use Rattle.reader.proofs.Progress.{header-within, body-within, takes-no-more}
-use Rattle.reader.proofs.Cut.{fed, run}
+use Rattle.reader.proofs.Portions.{fed, run}
 
 module _ (passed : ℕ) (held : List ℕ) where
   empty-header : heldHeader passed held [] ≡ held

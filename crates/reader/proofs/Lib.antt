@@ -5,7 +5,7 @@ pub mod Held
 pub mod Printed
 pub mod Turns
 pub mod Underway
-pub mod Cut
+pub mod Portions
 pub mod Empty
 pub mod Texts
 pub mod Sample

@@ -16,7 +16,7 @@ pub struct Reader {
 }
 
 // What a turn leaves: the reader, how many bytes of the portion it took, and where the printed text ends.
-pub struct Turned {
+pub struct Took {
     pub reader: Reader,
     pub taken: usize,
     pub at: usize,
@@ -119,7 +119,7 @@ pub fn turn(
     portion: &[u8],
     out: &mut [u8],
     at: usize,
-) -> Turned
+) -> Took
     requires { ⌜ reader .lines < 2 ^ 63 ⌝ }
     requires { ⌜ 6144 ≤ length (now floats) ⌝ }
     requires { ⌜ at + 124 ≤ length (now out) ⌝ }
@@ -135,7 +135,7 @@ pub fn turn(
         passed: reader.passed + n,
     };
     if is_unfinished(on, held) {
-        return Turned {
+        return Took {
             reader: on,
             taken: n,
             at: at,
@@ -148,7 +148,7 @@ pub fn turn(
         lines: number,
         passed: 0,
     };
-    Turned {
+    Took {
         reader: next,
         taken: n,
         at: end,
