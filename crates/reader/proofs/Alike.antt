@@ -10,6 +10,7 @@ use lib.Seq.{take-take, take-nil}
 use lib.Ieee.{Float, binary64, ofBits}
 use Rattle.float.specs.Operators.{if_then_else_}
 use Rattle.solve.specs.declared.Outcome.the-variants.{Refused}
+use Rattle.record.specs.Sizes.{headerBytes, fieldBytes, rowsAt}
 use Rattle.record.specs.Bytes.{little, field, float, floats}
 use Rattle.record.specs.Record.{bodyLength, kind, size, normalizeByte, task, allowance, rowFloats, refusal, outcome}
 use Rattle.record.proofs.Refusals.{solved-length, solved-without, refused-alike}
@@ -39,20 +40,20 @@ module _ (n : ℕ) (a b : List ℕ) (alike : take n a ≡ take n b) where
   unfolding float
   same-float at h = ap (ofBits binary64) (same-field 8 at h)
 
-  pub same-header : 6 ≤ n → (bodyLength a ≡ bodyLength b) × (kind a ≡ kind b)
-  unfolding bodyLength kind
+  pub same-header : headerBytes ≤ n → (bodyLength a ≡ bodyLength b) × (kind a ≡ kind b)
+  unfolding bodyLength kind headerBytes
   same-header h = (same-field 4 0 (omega arith), same-field 2 4 (omega arith))
 
-  pub same-size : 6 ≤ n → size a ≡ size b
+  pub same-size : headerBytes ≤ n → size a ≡ size b
   unfolding size
-  same-size h = ap (λ l. 6 + l) (same-header h .0)
+  same-size h = ap (λ l. headerBytes + l) (same-header h .0)
 
-  pub same-kept : 6 ≤ n → kept a ≡ kept b
+  pub same-kept : headerBytes ≤ n → kept a ≡ kept b
   unfolding kept
   same-kept h = rw (same-header h .0, same-header h .1, same-size h)
 
-  pub same-fields : 55 ≤ n → (task a ≡ task b) × (allowance a ≡ allowance b) × (normalizeByte a ≡ normalizeByte b)
-  unfolding task allowance normalizeByte
+  pub same-fields : rowsAt ≤ n → (task a ≡ task b) × (allowance a ≡ allowance b) × (normalizeByte a ≡ normalizeByte b)
+  unfolding task allowance normalizeByte rowsAt
   same-fields h = (
     rw (same-float 6 (omega arith), same-float 14 (omega arith), same-float 22 (omega arith), same-float 30 (omega arith), same-field 8 38 (omega arith), same-field 1 54 (omega arith)),
     same-field 8 46 (omega arith),
@@ -74,18 +75,18 @@ refused a not0 = rw (ne-eqb (refusal (kind a) (bodyLength a) (normalizeByte a)) 
 
 module _ (a b : List ℕ) where
   solved-alike : number a ≡ 0 → take (size a) a ≡ take (size a) b → outcome a ≡ outcome b
-  unfolding outcome size rowFloats
+  unfolding outcome size rowFloats rowsAt
   solved-alike e alike =
       let solved = solved-length (kind a) (bodyLength a) 0 e in
       let header = same-header (size a) a b alike (omega arith) in
       let fields = same-fields (size a) a b alike (omega arith) in
-      let rest = alike-later (size a) a b alike (bodyLength a - 49) 55 (omega arith) in
-      let rows = same-floats ((bodyLength a - 49) / 8) (bodyLength a - 49) (drop 55 a) (drop 55 b) rest (omega arith) in
+      let rest = alike-later (size a) a b alike (bodyLength a - fieldBytes) rowsAt (omega arith) in
+      let rows = same-floats ((bodyLength a - fieldBytes) / 8) (bodyLength a - fieldBytes) (drop rowsAt a) (drop rowsAt b) rest (omega arith) in
       rw (rows, fields .0, fields .1, fields .2, header .0, header .1)
 
-  module _ (alike : take 6 a ≡ take 6 b) where
+  module _ (alike : take headerBytes a ≡ take headerBytes b) where
     abbrev header : (bodyLength a ≡ bodyLength b) × (kind a ≡ kind b)
-    header = same-header 6 a b alike (omega arith)
+    header = same-header headerBytes a b alike (omega arith)
 
     same-number : number a ≡ number b
     same-number = rw (header .0, header .1)
@@ -99,10 +100,11 @@ module _ (a b : List ℕ) where
         let of-b = refused-alike (kind b) (bodyLength b) (normalizeByte b) (λ e. not0 (same-number ∙ e)) (λ e. not2 (same-number ∙ e)) in
         both-refused not0 (of-a ∙ same-number ∙ sym of-b)
 
-  many-alike : number a ≡ 2 → take 55 a ≡ take 55 b → outcome a ≡ outcome b
+  many-alike : number a ≡ 2 → take rowsAt a ≡ take rowsAt b → outcome a ≡ outcome b
+  unfolding rowsAt
   many-alike e alike =
-      let six = alike-less 55 a b alike 6 (omega arith) in
-      both-refused six (λ z. let no : ⊥ = omega arith in no) (rw (header six .0, header six .1, same-fields 55 a b alike (omega arith) .2))
+      let six = alike-less rowsAt a b alike headerBytes (omega arith) in
+      both-refused six (λ z. let no : ⊥ = omega arith in no) (rw (header six .0, header six .1, same-fields rowsAt a b alike (omega arith) .2))
 
   pub same-outcome : take (kept a) a ≡ take (kept a) b → outcome a ≡ outcome b
   unfolding kept

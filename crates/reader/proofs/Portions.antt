@@ -5,6 +5,7 @@ use Prim.Native.Nat.{ℕ, zero, suc, _≤_, _^_}
 use native.Mathlib.Omega.{arith}
 use lib.ListN.{length, take, drop, length-drop}
 use lib.Seq.{take-all}
+use Rattle.record.specs.Sizes.{longestRecord}
 use Rattle.reader.specs.Stream.{output}
 use Rattle.reader.specs.declared.Reader.{Reader}
 use Rattle.reader.specs.Reader.{taken, heldAfter, readerAfter, text, lastText}
@@ -68,7 +69,7 @@ running input (portion ∷ portions) reader held out way =
     ∙ running input portions (after .reader) (after .held) (out ++ after .out) (feeding input (flatten portions) (length portion) reader held out portion (omega arith) way)
 
 -- of an input of any length, the first 2^63 bytes in portions
-pub whatever-cut : (input : List ℕ) (portions : List (List ℕ)) (held : List ℕ) → flatten portions ≡ take (2 ^ 63) input → length held ≡ 49207
+pub whatever-cut : (input : List ℕ) (portions : List (List ℕ)) (held : List ℕ) → flatten portions ≡ take (2 ^ 63) input → length held ≡ longestRecord
     → run (reading 0 []) held portions ≡ output input
 whatever-cut input portions held those room =
     running (flatten portions) portions (reading 0 []) held [] (underway-start (flatten portions) held room)
@@ -76,12 +77,12 @@ whatever-cut input portions held those room =
     ∙ sym (output-prints input)
 
 -- so of one that is no longer, all of it
-pub whatever-cut-all : (portions : List (List ℕ)) (held : List ℕ) → length (flatten portions) ≤ 2 ^ 63 → length held ≡ 49207
+pub whatever-cut-all : (portions : List (List ℕ)) (held : List ℕ) → length (flatten portions) ≤ 2 ^ 63 → length held ≡ longestRecord
     → run (reading 0 []) held portions ≡ output (flatten portions)
 whatever-cut-all portions held few room = whatever-cut (flatten portions) portions held (sym (take-all (2 ^ 63) (flatten portions) few)) room
 
 -- two ways to cut one input print the same, whatever bytes were held before
-pub cut-either-way : (one other : List (List ℕ)) (held held′ : List ℕ) → flatten one ≡ flatten other → length held ≡ 49207 → length held′ ≡ 49207
+pub cut-either-way : (one other : List (List ℕ)) (held held′ : List ℕ) → flatten one ≡ flatten other → length held ≡ longestRecord → length held′ ≡ longestRecord
     → run (reading 0 []) held one ≡ run (reading 0 []) held′ other
 cut-either-way one other held held′ same room room′ =
     running (flatten one) one (reading 0 []) held [] (underway-start (flatten one) held room)

@@ -10,6 +10,7 @@ use borrow.Author.Tests.{lt-ltb, le-ltb}
 use lib.ListN.{length, take, drop, length-drop}
 use Rattle.float.specs.Operators.{if_then_else_}
 use Rattle.text.specs.Lines.{outcomeLine}
+use Rattle.record.specs.Sizes.{headerBytes}
 use Rattle.record.specs.Record.{size, outcome}
 use Rattle.reader.specs.Stream.{whole, ending, printed, output}
 use Rattle.reader.specs.Reader.{lastText}
@@ -18,17 +19,17 @@ use Rattle.reader.proofs.Held.{reading}
 -- ---- whether the first record is all there
 
 module _ (bytes : List ℕ) where
-  pub has-header : 6 ≤ size bytes
+  pub has-header : headerBytes ≤ size bytes
   unfolding size
   has-header = omega arith
 
   is-whole : size bytes ≤ length bytes → whole bytes ≡ true
   unfolding whole
-  is-whole h = rw (le-ltb (length bytes) 6 (omega (arith, has-header)), le-ltb (length bytes) (size bytes) h)
+  is-whole h = rw (le-ltb (length bytes) headerBytes (omega (arith, has-header)), le-ltb (length bytes) (size bytes) h)
 
   pub is-cut : length bytes < size bytes → whole bytes ≡ false
   unfolding whole
-  is-cut h = rw (lt-ltb (length bytes) (size bytes) h) (and-false (not (ltb (length bytes) 6)))
+  is-cut h = rw (lt-ltb (length bytes) (size bytes) h) (and-false (not (ltb (length bytes) headerBytes)))
 
   pub was-whole : whole bytes ≡ true → size bytes ≤ length bytes
   was-whole e = elim (decLe (size bytes) (length bytes)) [ yes h ↦ h | no h ↦ absurd (true≢false (sym e ∙ is-cut (omega arith))) ]
@@ -50,6 +51,7 @@ printed-cut (suc turns) n bytes h = rw (is-cut bytes h)
 
 -- as many as there are bytes are enough, and more change nothing
 pub enough : (j k n : ℕ) (bytes : List ℕ) → length bytes ≤ j → length bytes ≤ k → printed j n bytes ≡ printed k n bytes
+unfolding headerBytes
 enough zero k n bytes hj hk =
     let short : length bytes < size bytes = omega (arith, has-header bytes) in
     printed-cut zero n bytes short ∙ sym (printed-cut k n bytes short)

@@ -7,8 +7,10 @@ use Prim.Native.String.{String, [], _∷_}
 use lib.ListN.{replicate}
 use mathlib.Core.List.{_++_}
 use Rattle.float.specs.Operators.{if_then_else_}
+use Rattle.text.specs.Sizes.{longestDecimal}
 use Rattle.text.specs.Text.{glyph, decimalWithin, decimal}
 use Rattle.text.specs.Lines.{refusedWord, numberWord, refusalWords, outcomeWords, outcomeLine, endLine}
+use Rattle.record.specs.Sizes.{headerBytes, fieldBytes, rowBytes, recordRows}
 use Rattle.record.specs.Bytes.{little, field}
 use Rattle.record.specs.Record.{bodyLength, kind, size, normalizeByte, refusal, outcome}
 use Rattle.reader.specs.Stream.{whole, ending, printed, output}
@@ -38,5 +40,5 @@ Sample =
 
 pub sample : Sample
 unfolding
-    if_then_else_ glyph decimalWithin decimal refusedWord numberWord refusalWords outcomeWords outcomeLine endLine little field bodyLength kind size normalizeByte refusal outcome whole ending printed output
+    if_then_else_ glyph longestDecimal decimalWithin decimal refusedWord numberWord refusalWords outcomeWords outcomeLine endLine little field headerBytes fieldBytes rowBytes recordRows bodyLength kind size normalizeByte refusal outcome whole ending printed output
 sample = (refl, refl, refl, refl, refl, refl)

@@ -10,6 +10,7 @@ use lib.ListN.{length, drop, length-append}
 use lib.Seq.{take-append-le, drop-append-le, drop-append-add, drop-length}
 use Rattle.solve.specs.declared.Outcome.{Outcome}
 use Rattle.text.specs.Lines.{outcomeLine}
+use Rattle.record.specs.Sizes.{headerBytes, longestRecord}
 use Rattle.record.specs.Record.{size, outcome}
 use Rattle.reader.specs.Stream.{whole}
 use Rattle.reader.specs.declared.Reader.{Reader}
@@ -31,9 +32,10 @@ pub record Underway (input : List ℕ) (reader : Reader) (held out rest : List �
   pub left : prints 0 input ≡ out ++ prints (reader .lines) (seen ++ rest)
 
 none-cut : whole [] ≡ false
+unfolding headerBytes
 none-cut = is-cut [] (omega (arith, has-header []))
 
-pub underway-start : (input held : List ℕ) → length held ≡ 49207 → Underway input (reading 0 []) held [] input
+pub underway-start : (input held : List ℕ) → length held ≡ longestRecord → Underway input (reading 0 []) held [] input
 underway-start input held room = record { seen = []; passed = refl; cut = none-cut; holds = holds-nothing held room; left = refl }
 
 pub underway-unfinished : (input : List ℕ) (reader : Reader) (held out rest : List ℕ) → Underway input reader held out rest
@@ -41,7 +43,7 @@ pub underway-unfinished : (input : List ℕ) (reader : Reader) (held out rest : 
 underway-unfinished input reader held out rest way =
     let short = was-cut (way .seen) (way .cut) in
     let all = way .passed in
-    elim (decLe 6 (length (way .seen))) [
+    elim (decLe headerBytes (length (way .seen))) [
       | yes there ↦ lacks-body reader held (omega (arith, held-size (way .seen) held (way .holds) there))
       | no fewer ↦ lacks-header reader held (omega arith)
     ]

@@ -8,6 +8,7 @@ use lib.Seq.{paste}
 use Rattle.float.specs.Operators.{if_then_else_}
 use Rattle.solve.specs.declared.Outcome.the-variants.{Refused}
 use Rattle.text.specs.Lines.{outcomeLine, endLine}
+use Rattle.record.specs.Sizes.{headerBytes, rowsAt}
 use Rattle.record.specs.Record.{bodyLength, kind, size, refusal, outcome}
 use Rattle.reader.specs.declared.Reader.{Reader}
 
@@ -15,24 +16,24 @@ use Rattle.reader.specs.declared.Reader.{Reader}
 unfoldable pub kept : List ℕ → ℕ
 kept held =
     let number = refusal (kind held) (bodyLength held) 0 in
-    if eqb number 0 then size held else if eqb number 2 then 55 else 6
+    if eqb number 0 then size held else if eqb number 2 then rowsAt else headerBytes
 
 -- the record in hand is not all there
 unfoldable pub unfinished : Reader → List ℕ → Bool
-unfinished reader held = ltb (reader .passed) 6 || ltb (reader .passed) (size held)
+unfinished reader held = ltb (reader .passed) headerBytes || ltb (reader .passed) (size held)
 
 -- ---- one portion: first what the header lacks, then what the record lacks, of which what is not kept is passed over
 
 -- how many bytes of a portion go to the header, and what is then held
 unfoldable pub toHeader : ℕ → List ℕ → ℕ
-toHeader passed portion = min (6 - passed) (length portion)
+toHeader passed portion = min (headerBytes - passed) (length portion)
 
 unfoldable pub heldHeader : ℕ → List ℕ → List ℕ → List ℕ
 heldHeader passed held portion = paste held passed portion (toHeader passed portion)
 
 -- how many go on to the body of the record in hand, and what is then held
 unfoldable pub toBody : ℕ → List ℕ → List ℕ → ℕ
-toBody passed held portion = if ltb passed 6 then 0 else min (size held - passed) (length portion)
+toBody passed held portion = if ltb passed headerBytes then 0 else min (size held - passed) (length portion)
 
 unfoldable pub heldBody : ℕ → List ℕ → List ℕ → List ℕ
 heldBody passed held portion = paste held passed portion (min (kept held - passed) (toBody passed held portion))

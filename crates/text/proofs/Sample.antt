@@ -12,6 +12,7 @@ use Rattle.solve.specs.declared.Answer.{Answer}
 use Rattle.solve.specs.declared.Answer.the-variants.{Point, Level, Across, Nothing}
 use Rattle.solve.specs.declared.Outcome.{Outcome}
 use Rattle.solve.specs.declared.Outcome.the-variants.{Answered, Stopped, Refused}
+use Rattle.text.specs.Sizes.{longestDecimal}
 use Rattle.text.specs.Text.{glyph, decimalWithin, decimal, hexFrom, hex}
 use Rattle.text.specs.Lines.{pointWord, levelWord, acrossWord, nothingWord, refusedWord, numberWord, floatWord, slotWord, answerWords, refusalWords, outcomeWords, outcomeLine, endLine}
 
@@ -46,6 +47,6 @@ Sample =
 
 pub sample : Sample
 unfolding
-    ofBits toBits if_then_else_ glyph decimalWithin decimal hexFrom hex pointWord levelWord acrossWord nothingWord refusedWord numberWord floatWord slotWord answerWords refusalWords outcomeWords
+    ofBits toBits if_then_else_ glyph longestDecimal decimalWithin decimal hexFrom hex pointWord levelWord acrossWord nothingWord refusedWord numberWord floatWord slotWord answerWords refusalWords outcomeWords
     outcomeLine endLine
 sample = (refl, refl, refl, refl, refl, refl, refl, refl, refl, refl)

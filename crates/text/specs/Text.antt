@@ -4,6 +4,7 @@ use mathlib.Core.List.{List, [], _∷_, _++_}
 use lib.Dec.{ltb}
 use lib.ListN.{length, take, drop}
 use Rattle.float.specs.Operators.{if_then_else_}
+use Rattle.text.specs.Sizes.{longestDecimal}
 
 -- a digit below 16: `0` to `9`, then `A` to `F`
 unfoldable pub glyph : ℕ → ℕ
@@ -16,9 +17,8 @@ decimalWithin (suc k) n =
     let rest = decimalWithin k (n / 10) in
     if ltb n 10 then glyph n ∷ [] else rest ++ glyph (n % 10) ∷ []
 
--- a number below 2^64 has 20 digits at most
 unfoldable pub decimal : ℕ → List ℕ
-decimal n = decimalWithin 20 n
+decimal n = decimalWithin longestDecimal n
 
 -- k hexadecimal digits from the top of 64 bits down: the topmost four bits, then what is left, moved up by four
 unfoldable pub hexFrom : ℕ → ℕ → List ℕ

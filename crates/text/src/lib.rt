@@ -5,9 +5,16 @@ use solve::Outcome;
 ghost use mathlib.Core.Path.{_≡_};
 ghost use Prim.Native.Nat.{_+_, _≤_, _<_};
 ghost use lib.ListN.{length};
+ghost use Rattle.text.specs.Sizes.{longestDecimal, longestNumber, longestFloat, longestAnswer, longestRefusal, longestOutcome, longestLine, longestEnd};
 ghost use Rattle.text.specs.Text.{written, decimal, hex};
 ghost use Rattle.text.specs.Text.{glyph as Text·glyph};
 ghost use Rattle.text.specs.Lines.{numberWord, floatWord, slotWord, answerWords, refusalWords, outcomeWords, outcomeLine, endLine};
+
+// The decimal digits of a number below 2^64, at most.
+const DIGITS: usize = 20;
+
+// The longest line, 124 bytes: a number; ` point` with two floats of 17 bytes; two rows and a count, each behind a blank; and the newline.
+pub const LONGEST_LINE: usize = DIGITS + 6 + 2 * 17 + 3 * (1 + DIGITS) + 1;
 
 // ---- text
 
@@ -47,11 +54,11 @@ fn put_hex(out: &mut [u8], at: usize, n: u64) -> usize
 }
 
 fn put_decimal(out: &mut [u8], at: usize, n: u64) -> usize
-    requires { ⌜ at + 20 ≤ length (now out) ⌝ }
+    requires { ⌜ at + longestDecimal ≤ length (now out) ⌝ }
     ensures end { λ r. ⌜ r ≡ at + length (decimal n) ⌝ }
     ensures out { λ _. ⌜ now (out .exit) ≡ written (now (out .entry)) at (decimal n) ⌝ }
 {
-    let mut digits = [0u8; 20];
+    let mut digits = [0u8; DIGITS];
     let k = io::decimal(n, &mut digits);
     put(out, at, &digits[..k])
 }
@@ -59,7 +66,7 @@ fn put_decimal(out: &mut [u8], at: usize, n: u64) -> usize
 // ---- words, each with the blank before it
 
 fn put_number(out: &mut [u8], at: usize, n: u64) -> usize
-    requires { ⌜ at + 21 ≤ length (now out) ⌝ }
+    requires { ⌜ at + longestNumber ≤ length (now out) ⌝ }
     ensures end { λ r. ⌜ r ≡ at + length (numberWord n) ⌝ }
     ensures out { λ _. ⌜ now (out .exit) ≡ written (now (out .entry)) at (numberWord n) ⌝ }
 {
@@ -68,7 +75,7 @@ fn put_number(out: &mut [u8], at: usize, n: u64) -> usize
 }
 
 fn put_float(out: &mut [u8], at: usize, x: f64) -> usize
-    requires { ⌜ at + 17 ≤ length (now out) ⌝ }
+    requires { ⌜ at + longestFloat ≤ length (now out) ⌝ }
     ensures end { λ r. ⌜ r ≡ at + length (floatWord x) ⌝ }
     ensures out { λ _. ⌜ now (out .exit) ≡ written (now (out .entry)) at (floatWord x) ⌝ }
 {
@@ -77,7 +84,7 @@ fn put_float(out: &mut [u8], at: usize, x: f64) -> usize
 }
 
 fn put_slot(out: &mut [u8], at: usize, slot: Slot) -> usize
-    requires { ⌜ at + 21 ≤ length (now out) ⌝ }
+    requires { ⌜ at + longestNumber ≤ length (now out) ⌝ }
     ensures end { λ r. ⌜ r ≡ at + length (slotWord slot) ⌝ }
     ensures out { λ _. ⌜ now (out .exit) ≡ written (now (out .entry)) at (slotWord slot) ⌝ }
 {
@@ -88,7 +95,7 @@ fn put_slot(out: &mut [u8], at: usize, slot: Slot) -> usize
 }
 
 fn put_answer(out: &mut [u8], at: usize, a: Answer) -> usize
-    requires { ⌜ at + 40 ≤ length (now out) ⌝ }
+    requires { ⌜ at + longestAnswer ≤ length (now out) ⌝ }
     ensures end { λ r. ⌜ r ≡ at + length (answerWords a) ⌝ }
     ensures out { λ _. ⌜ now (out .exit) ≡ written (now (out .entry)) at (answerWords a) ⌝ }
 {
@@ -111,7 +118,7 @@ fn put_answer(out: &mut [u8], at: usize, a: Answer) -> usize
 }
 
 fn put_refusal(out: &mut [u8], at: usize, k: u64) -> usize
-    requires { ⌜ at + 29 ≤ length (now out) ⌝ }
+    requires { ⌜ at + longestRefusal ≤ length (now out) ⌝ }
     ensures end { λ r. ⌜ r ≡ at + length (refusalWords k) ⌝ }
     ensures out { λ _. ⌜ now (out .exit) ≡ written (now (out .entry)) at (refusalWords k) ⌝ }
 {
@@ -120,7 +127,7 @@ fn put_refusal(out: &mut [u8], at: usize, k: u64) -> usize
 }
 
 fn put_outcome(out: &mut [u8], at: usize, got: Outcome) -> usize
-    requires { ⌜ at + 103 ≤ length (now out) ⌝ }
+    requires { ⌜ at + longestOutcome ≤ length (now out) ⌝ }
     ensures end { λ r. ⌜ r ≡ at + length (outcomeWords got) ⌝ }
     ensures out { λ _. ⌜ now (out .exit) ≡ written (now (out .entry)) at (outcomeWords got) ⌝ }
 {
@@ -138,10 +145,10 @@ fn put_outcome(out: &mut [u8], at: usize, got: Outcome) -> usize
     }
 }
 
-// ---- lines: none is longer than 124 bytes
+// ---- lines
 
 pub fn put_line(out: &mut [u8], at: usize, number: u64, got: Outcome) -> usize
-    requires { ⌜ at + 124 ≤ length (now out) ⌝ }
+    requires { ⌜ at + longestLine ≤ length (now out) ⌝ }
     ensures end { λ r. ⌜ r ≡ at + length (outcomeLine number got) ⌝ }
     ensures out { λ _. ⌜ now (out .exit) ≡ written (now (out .entry)) at (outcomeLine number got) ⌝ }
 {
@@ -151,7 +158,7 @@ pub fn put_line(out: &mut [u8], at: usize, number: u64, got: Outcome) -> usize
 }
 
 pub fn put_end(out: &mut [u8], at: usize, lines: u64) -> usize
-    requires { ⌜ at + 25 ≤ length (now out) ⌝ }
+    requires { ⌜ at + longestEnd ≤ length (now out) ⌝ }
     ensures end { λ r. ⌜ r ≡ at + length (endLine lines) ⌝ }
     ensures out { λ _. ⌜ now (out .exit) ≡ written (now (out .entry)) at (endLine lines) ⌝ }
 {

@@ -6,6 +6,7 @@ use borrow.Author.Needs.{needs}
 use lib.ListN.{length, take, drop, length-drop}
 use lib.Seq.{take-all}
 use denote.Ref.{now}
+use Rattle.record.specs.Sizes.{headerBytes}
 use Rattle.reader.specs.Reader.{taken, heldAfter}
 use Rattle.reader.proofs.Progress.{header-within, header-lacking}
 use Rattle.reader.proofs.feed.Statement.{statement}
@@ -15,6 +16,7 @@ take-header-requires : tie.Need-take-header-requires
 take-header-requires c κs = search needs
 
 add-take-body : tie.Need-add-take-body
+unfolding headerBytes
 add-take-body c = let a = c .before .before .before .before .args in omega (arith, header-lacking (a .reader .passed) (now (a .held)) (now (a .portion)))
 
 sub-take-body : tie.Need-sub-take-body

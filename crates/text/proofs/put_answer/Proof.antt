@@ -2,6 +2,7 @@
 use native.Mathlib.Omega.{arith}
 use borrow.Author.Needs.{needs}
 use denote.Ref.{now}
+use Rattle.text.specs.Sizes.{longestAnswer}
 use Rattle.text.specs.Lines.{pointWord, levelWord, acrossWord, nothingWord, floatWord, answerWords}
 use Rattle.text.proofs.Written.{then-put, then-two-put}
 use Rattle.text.proofs.Lengths.{float-length}
@@ -15,12 +16,15 @@ slice-aggregate-put : tie.Need-slice-aggregate-put
 slice-aggregate-put c = search needs
 
 put-requires : tie.Need-put-requires
+unfolding longestAnswer
 put-requires c κs = search needs
 
 put-float-requires : tie.Need-put-float-requires
+unfolding longestAnswer
 put-float-requires c κs = search needs
 
 put-float-requires-2 : tie.Need-put-float-requires-2
+unfolding longestAnswer
 put-float-requires-2 c κs =
     omega (arith, float-length (c .before .before .before .before .before .before .before .before .before .before .before .a .given .0 .0))
 
@@ -31,9 +35,11 @@ slice-aggregate-put-2 : tie.Need-slice-aggregate-put-2
 slice-aggregate-put-2 c = search needs
 
 put-requires-2 : tie.Need-put-requires-2
+unfolding longestAnswer
 put-requires-2 c κs = search needs
 
 put-float-requires-3 : tie.Need-put-float-requires-3
+unfolding longestAnswer
 put-float-requires-3 c κs = search needs
 
 enum-known-a-3 : tie.Need-enum-known-a-3
@@ -43,9 +49,11 @@ slice-aggregate-put-3 : tie.Need-slice-aggregate-put-3
 slice-aggregate-put-3 c = search needs
 
 put-requires-3 : tie.Need-put-requires-3
+unfolding longestAnswer
 put-requires-3 c κs = search needs
 
 put-float-requires-4 : tie.Need-put-float-requires-4
+unfolding longestAnswer
 put-float-requires-4 c κs = search needs
 
 enum-told : tie.Need-enum-told
@@ -55,13 +63,14 @@ slice-aggregate-put-4 : tie.Need-slice-aggregate-put-4
 slice-aggregate-put-4 c = search needs
 
 put-requires-4 : tie.Need-put-requires-4
+unfolding longestAnswer
 put-requires-4 c κs = search needs
 
 same-length : tie.Need-same-length
 same-length c = search needs
 
 returns : tie.Need-returns
-unfolding answerWords pointWord
+unfolding answerWords pointWord longestAnswer
 returns c =
     let second = c .before .before in
     let first = second .before .before .before .before in
@@ -77,7 +86,7 @@ same-length-2 : tie.Need-same-length-2
 same-length-2 c = search needs
 
 returns-2 : tie.Need-returns-2
-unfolding answerWords levelWord
+unfolding answerWords levelWord longestAnswer
 returns-2 c =
     let number = c .before .before in
     let word = number .before .before .before .before in
@@ -89,7 +98,7 @@ same-length-3 : tie.Need-same-length-3
 same-length-3 c = search needs
 
 returns-3 : tie.Need-returns-3
-unfolding answerWords acrossWord
+unfolding answerWords acrossWord longestAnswer
 returns-3 c =
     let number = c .before .before in
     let word = number .before .before .before .before in

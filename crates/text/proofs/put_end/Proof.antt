@@ -3,6 +3,7 @@ use mathlib.Core.List.{[], _∷_}
 use native.Mathlib.Omega.{arith}
 use borrow.Author.Needs.{needs}
 use denote.Ref.{now}
+use Rattle.text.specs.Sizes.{longestEnd}
 use Rattle.text.specs.Lines.{numberWord, endLine}
 use Rattle.text.proofs.Written.{then-two-put}
 use Rattle.text.proofs.Lengths.{number-length}
@@ -13,15 +14,18 @@ slice-aggregate-put : tie.Need-slice-aggregate-put
 slice-aggregate-put c = search needs
 
 put-requires : tie.Need-put-requires
+unfolding longestEnd
 put-requires c κs = search needs
 
 put-number-requires : tie.Need-put-number-requires
+unfolding longestEnd
 put-number-requires c κs = search needs
 
 slice-aggregate-put-2 : tie.Need-slice-aggregate-put-2
 slice-aggregate-put-2 c = search needs
 
 put-requires-2 : tie.Need-put-requires-2
+unfolding longestEnd
 put-requires-2 c κs =
     omega (arith, number-length (c .before .before .before .before .before .before .before .before .before .before .before .before .args .lines))
 
@@ -29,7 +33,7 @@ same-length : tie.Need-same-length
 same-length c = search needs
 
 returns : tie.Need-returns
-unfolding endLine
+unfolding endLine longestEnd
 returns c =
     let ended = c .before .before in
     let number = ended .before .before .before .before .before in

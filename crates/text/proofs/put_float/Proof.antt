@@ -4,6 +4,7 @@ use native.Mathlib.Omega.{arith}
 use borrow.Author.Needs.{needs}
 use denote.Ref.{now}
 use lib.Ieee.{binary64, toBits}
+use Rattle.text.specs.Sizes.{longestFloat}
 use Rattle.text.specs.Text.{hex}
 use Rattle.text.specs.Lines.{floatWord}
 use Rattle.text.proofs.Written.{then-put}
@@ -15,19 +16,21 @@ slice-aggregate-put : tie.Need-slice-aggregate-put
 slice-aggregate-put c = search needs
 
 put-requires : tie.Need-put-requires
+unfolding longestFloat
 put-requires c κs = search needs
 
 bits-of-requires : tie.Need-bits-of-requires
 bits-of-requires c κs = search needs
 
 put-hex-requires : tie.Need-put-hex-requires
+unfolding longestFloat
 put-hex-requires c κs = search needs
 
 same-length : tie.Need-same-length
 same-length c = search needs
 
 returns : tie.Need-returns
-unfolding floatWord
+unfolding floatWord longestFloat
 returns c =
     let digits = c .before .before in
     let blank = digits .before .before .before .before .before in

@@ -3,6 +3,7 @@ use mathlib.Core.List.{[], _∷_}
 use native.Mathlib.Omega.{arith}
 use borrow.Author.Needs.{needs}
 use denote.Ref.{now}
+use Rattle.text.specs.Sizes.{longestLine}
 use Rattle.text.specs.Text.{decimal}
 use Rattle.text.specs.Lines.{outcomeWords, outcomeLine}
 use Rattle.text.proofs.Written.{then-two-put}
@@ -12,9 +13,11 @@ use Rattle.text.proofs.put_line.Statement.{statement}
 use Rattle.text.proofs.put_line.Tie as tie
 
 put-decimal-requires : tie.Need-put-decimal-requires
+unfolding longestLine
 put-decimal-requires c κs = search needs
 
 put-outcome-requires : tie.Need-put-outcome-requires
+unfolding longestLine
 put-outcome-requires c κs =
     omega (arith, decimal-length (c .before .before .before .before .before .before .args .number))
 
@@ -22,6 +25,7 @@ slice-aggregate-put : tie.Need-slice-aggregate-put
 slice-aggregate-put c = search needs
 
 put-requires : tie.Need-put-requires
+unfolding longestLine
 put-requires c κs =
     omega (arith, decimal-length (c .before .before .before .before .before .before .before .before .before .before .before .args .number), outcome-length (c .before .before .before .before .before .before .before .before .before .before .before .args .got))
 
@@ -29,7 +33,7 @@ same-length : tie.Need-same-length
 same-length c = search needs
 
 returns : tie.Need-returns
-unfolding outcomeLine
+unfolding outcomeLine longestLine
 returns c =
     let ended = c .before .before in
     let words = ended .before .before .before .before .before in

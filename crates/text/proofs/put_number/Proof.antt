@@ -3,6 +3,7 @@ use mathlib.Core.List.{[], _∷_}
 use native.Mathlib.Omega.{arith}
 use borrow.Author.Needs.{needs}
 use denote.Ref.{now}
+use Rattle.text.specs.Sizes.{longestNumber}
 use Rattle.text.specs.Text.{decimal}
 use Rattle.text.specs.Lines.{numberWord}
 use Rattle.text.proofs.Written.{then-put}
@@ -14,16 +15,18 @@ slice-aggregate-put : tie.Need-slice-aggregate-put
 slice-aggregate-put c = search needs
 
 put-requires : tie.Need-put-requires
+unfolding longestNumber
 put-requires c κs = search needs
 
 put-decimal-requires : tie.Need-put-decimal-requires
+unfolding longestNumber
 put-decimal-requires c κs = search needs
 
 same-length : tie.Need-same-length
 same-length c = search needs
 
 returns : tie.Need-returns
-unfolding numberWord
+unfolding numberWord longestNumber
 returns c =
     let digits = c .before .before in
     let blank = digits .before .before .before .before in

@@ -5,6 +5,7 @@ use native.Mathlib.Omega.{arith}
 use borrow.Author.Needs.{needs}
 use denote.Ref.{now}
 use lib.ListN.{length, length-append}
+use Rattle.text.specs.Sizes.{longestRefusal, longestOutcome}
 use Rattle.text.specs.Lines.{numberWord, slotWord, answerWords, outcomeWords}
 use Rattle.text.proofs.Written.{then-put, then-two-put}
 use Rattle.text.proofs.Lengths.{number-length, slot-length, answer-length}
@@ -15,30 +16,36 @@ enum-known-got : tie.Need-enum-known-got
 enum-known-got c = search needs
 
 put-refusal-requires : tie.Need-put-refusal-requires
+unfolding longestOutcome longestRefusal
 put-refusal-requires c κs = search needs
 
 enum-known-got-2 : tie.Need-enum-known-got-2
 enum-known-got-2 c = search needs
 
 put-refusal-requires-2 : tie.Need-put-refusal-requires-2
+unfolding longestOutcome longestRefusal
 put-refusal-requires-2 c κs = search needs
 
 enum-known-got-3 : tie.Need-enum-known-got-3
 enum-known-got-3 c = search needs
 
 put-answer-requires : tie.Need-put-answer-requires
+unfolding longestOutcome
 put-answer-requires c κs = search needs
 
 put-slot-requires : tie.Need-put-slot-requires
+unfolding longestOutcome
 put-slot-requires c κs =
     omega (arith, answer-length (c .before .before .before .before .before .before .got3 .given .0 .0))
 
 put-slot-requires-2 : tie.Need-put-slot-requires-2
+unfolding longestOutcome
 put-slot-requires-2 c κs =
     let g = c .before .before .before .before .before .before .before .before .before .before .got3 .given .0 in
     omega (arith, answer-length (g .0), slot-length (g .1 .0 .first))
 
 put-number-requires : tie.Need-put-number-requires
+unfolding longestOutcome
 put-number-requires c κs =
     let g = c .before .before .before .before .before .before .before .before .before .before .before .before .before .before .got3 .given .0 in
     omega (arith, answer-length (g .0), slot-length (g .1 .0 .first), slot-length (g .1 .0 .second))
@@ -63,7 +70,7 @@ same-length-3 : tie.Need-same-length-3
 same-length-3 c = search needs
 
 returns-3 : tie.Need-returns-3
-unfolding outcomeWords
+unfolding outcomeWords longestOutcome
 returns-3 c =
     let counted = c .before .before in
     let later = counted .before .before .before .before in

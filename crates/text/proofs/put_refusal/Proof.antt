@@ -2,6 +2,7 @@
 use native.Mathlib.Omega.{arith}
 use borrow.Author.Needs.{needs}
 use denote.Ref.{now}
+use Rattle.text.specs.Sizes.{longestRefusal}
 use Rattle.text.specs.Lines.{refusedWord, numberWord, refusalWords}
 use Rattle.text.proofs.Written.{then-put}
 use Rattle.text.proofs.Lengths.{number-length}
@@ -12,16 +13,18 @@ slice-aggregate-put : tie.Need-slice-aggregate-put
 slice-aggregate-put c = search needs
 
 put-requires : tie.Need-put-requires
+unfolding longestRefusal
 put-requires c κs = search needs
 
 put-number-requires : tie.Need-put-number-requires
+unfolding longestRefusal
 put-number-requires c κs = search needs
 
 same-length : tie.Need-same-length
 same-length c = search needs
 
 returns : tie.Need-returns
-unfolding refusalWords refusedWord
+unfolding refusalWords refusedWord longestRefusal
 returns c =
     let number = c .before .before in
     let word = number .before .before .before .before in

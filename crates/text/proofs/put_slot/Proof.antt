@@ -1,5 +1,6 @@
 -- `text::put_slot` meets its contract. Assumes nothing.
 use borrow.Author.Needs.{needs}
+use Rattle.text.specs.Sizes.{longestNumber}
 use Rattle.text.specs.Lines.{slotWord}
 use Rattle.text.proofs.put_slot.Statement.{statement}
 use Rattle.text.proofs.put_slot.Tie as tie
@@ -11,6 +12,7 @@ slice-aggregate-put : tie.Need-slice-aggregate-put
 slice-aggregate-put c = search needs
 
 put-requires : tie.Need-put-requires
+unfolding longestNumber
 put-requires c κs = search needs
 
 enum-known-slot : tie.Need-enum-known-slot
