@@ -48,7 +48,9 @@ fn le16(bytes: &[u8; LONGEST], at: usize) -> u64
     ensures value { λ r. ⌜ r ≡ field 2 at (now (bytes .entry)) ⌝ }
     ensures small { λ r. ⌜ r < 2 ^ 16 ⌝ }
 {
-    wide(bytes[at]) + wide(bytes[at + 1]) * 0x100
+    let low = wide(bytes[at]);
+    let high = wide(bytes[at + 1]);
+    low + high * 0x100
 }
 
 fn le32(bytes: &[u8; LONGEST], at: usize) -> u64
