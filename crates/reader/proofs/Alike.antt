@@ -18,7 +18,7 @@ use Rattle.reader.specs.Reader.{kept}
 use Rattle.reader.proofs.Kept.{by-number, number}
 
 -- some bytes from `at` on are the end of the first ones
-pub part : (k at : ℕ) (bytes : List ℕ) → take k (drop at bytes) ≡ drop at (take (at + k) bytes)
+part : (k at : ℕ) (bytes : List ℕ) → take k (drop at bytes) ≡ drop at (take (at + k) bytes)
 part k zero bytes = ap (λ n. take n bytes) (sym (zero-add k))
 part k (suc at) [] = take-nil k ∙ rw (suc-add at k)
 part k (suc at) (b ∷ bytes) = rw (suc-add at k) (part k at bytes)
@@ -29,18 +29,18 @@ module _ (n : ℕ) (a b : List ℕ) (alike : take n a ≡ take n b) where
   pub alike-less : (m : ℕ) → m ≤ n → take m a ≡ take m b
   alike-less m h = sym (take-take m n a h) ∙ ap (take m) alike ∙ take-take m n b h
 
-  pub alike-later : (m at : ℕ) → at + m ≤ n → take m (drop at a) ≡ take m (drop at b)
+  alike-later : (m at : ℕ) → at + m ≤ n → take m (drop at a) ≡ take m (drop at b)
   alike-later m at h = part m at a ∙ ap (drop at) (alike-less (at + m) h) ∙ sym (part m at b)
 
-  pub same-field : (k at : ℕ) → at + k ≤ n → field k at a ≡ field k at b
+  same-field : (k at : ℕ) → at + k ≤ n → field k at a ≡ field k at b
   unfolding field
   same-field k at h = ap little (alike-later k at h)
 
-  pub same-float : (at : ℕ) → at + 8 ≤ n → float at a ≡ float at b
+  same-float : (at : ℕ) → at + 8 ≤ n → float at a ≡ float at b
   unfolding float
   same-float at h = ap (ofBits binary64) (same-field 8 at h)
 
-  pub same-header : headerBytes ≤ n → (bodyLength a ≡ bodyLength b) × (kind a ≡ kind b)
+  same-header : headerBytes ≤ n → (bodyLength a ≡ bodyLength b) × (kind a ≡ kind b)
   unfolding bodyLength kind headerBytes
   same-header h = (same-field 4 0 (omega arith), same-field 2 4 (omega arith))
 
@@ -52,15 +52,22 @@ module _ (n : ℕ) (a b : List ℕ) (alike : take n a ≡ take n b) where
   unfolding kept
   same-kept h = rw (same-header h .0, same-header h .1, same-size h)
 
-  pub same-fields : rowsAt ≤ n → (task a ≡ task b) × (allowance a ≡ allowance b) × (normalizeByte a ≡ normalizeByte b)
+  same-fields : rowsAt ≤ n → (task a ≡ task b) × (allowance a ≡ allowance b) × (normalizeByte a ≡ normalizeByte b)
   unfolding task allowance normalizeByte rowsAt
   same-fields h = (
-    rw (same-float 6 (omega arith), same-float 14 (omega arith), same-float 22 (omega arith), same-float 30 (omega arith), same-field 8 38 (omega arith), same-field 1 54 (omega arith)),
+    rw (
+      same-float 6 (omega arith),
+      same-float 14 (omega arith),
+      same-float 22 (omega arith),
+      same-float 30 (omega arith),
+      same-field 8 38 (omega arith),
+      same-field 1 54 (omega arith),
+    ),
     same-field 8 46 (omega arith),
     same-field 1 54 (omega arith),
   )
 
-pub same-floats : (k n : ℕ) (a b : List ℕ) → take n a ≡ take n b → 8 * k ≤ n → floats k a ≡ floats k b
+same-floats : (k n : ℕ) (a b : List ℕ) → take n a ≡ take n b → 8 * k ≤ n → floats k a ≡ floats k b
 unfolding floats
 same-floats zero n a b alike h = refl
 same-floats (suc k) n a b alike h =
@@ -91,7 +98,8 @@ module _ (a b : List ℕ) where
     same-number : number a ≡ number b
     same-number = rw (header .0, header .1)
 
-    both-refused : (number a ≡ 0 → ⊥) → refusal (kind a) (bodyLength a) (normalizeByte a) ≡ refusal (kind b) (bodyLength b) (normalizeByte b) → outcome a ≡ outcome b
+    both-refused : (number a ≡ 0 → ⊥) → refusal (kind a) (bodyLength a) (normalizeByte a) ≡ refusal (kind b) (bodyLength b) (normalizeByte b)
+        → outcome a ≡ outcome b
     both-refused not0 same = refused a not0 ∙ ap Refused same ∙ sym (refused b (λ e. not0 (same-number ∙ e)))
 
     other-alike : (number a ≡ 0 → ⊥) → (number a ≡ 2 → ⊥) → outcome a ≡ outcome b
@@ -108,4 +116,6 @@ module _ (a b : List ℕ) where
 
   pub same-outcome : take (kept a) a ≡ take (kept a) b → outcome a ≡ outcome b
   unfolding kept
-  same-outcome = by-number (λ k. take k a ≡ take k b → outcome a ≡ outcome b) (number a) _ _ _ solved-alike many-alike (λ not0 not2 alike. other-alike alike not0 not2)
+  same-outcome =
+      let by-kept = by-number (λ k. take k a ≡ take k b → outcome a ≡ outcome b) (number a) _ _ _ in
+      by-kept solved-alike many-alike (λ not0 not2 alike. other-alike alike not0 not2)

@@ -43,7 +43,7 @@ module _ (seen held : List ℕ) (holds : Holds seen held) where
     pub held-size : size held ≡ size seen
     held-size = same-size headerBytes held seen header-alike (omega arith)
 
-    pub held-kept : kept held ≡ kept seen
+    held-kept : kept held ≡ kept seen
     held-kept = same-kept headerBytes held seen header-alike (omega arith)
 
 -- ---- more bytes change nothing that the header tells
@@ -52,7 +52,7 @@ module _ (seen portion : List ℕ) (there : headerBytes ≤ length seen) where
   pub more-size : size (seen ++ portion) ≡ size seen
   more-size = same-size headerBytes (seen ++ portion) seen (take-append-le headerBytes seen portion there) (omega arith)
 
-  pub more-kept : kept (seen ++ portion) ≡ kept seen
+  more-kept : kept (seen ++ portion) ≡ kept seen
   more-kept = same-kept headerBytes (seen ++ portion) seen (take-append-le headerBytes seen portion there) (omega arith)
 
 -- ---- n bytes of a portion are seen, of which those are put in that the first k lack
@@ -87,7 +87,7 @@ module _ (k : ℕ) (seen held portion : List ℕ) (n : ℕ) (fits : k ≤ length
       let same = ap₂ (λ (x y : List ℕ). x ++ y) seen-first (sym (take-take m n portion (omega arith))) in
       rw upto (put ∙ same ∙ sym (take-append-add seen (take n portion) m))
 
-  pub put-in : First k more (paste held (length seen) portion m)
+  put-in : First k more (paste held (length seen) portion m)
   put-in = elim (decLe k (length seen)) [ yes h ↦ nothing-lacks h | no h ↦ some-lacks (omega arith) ]
 
 -- ---- a turn's two parts, and both
@@ -108,7 +108,8 @@ module _ (seen held portion : List ℕ) (holds : Holds seen held) where
       let long = length-more seen portion toFirst within in
       let upto : min (length withHeader) headerBytes ≡ min (length withHeader) (kept withHeader) = omega (arith, keeps-header withHeader) in
       let before : First headerBytes seen held = begins seen held holds (min (length seen) headerBytes) (omega arith) (omega (arith, keeps-header seen)) in
-      let put = subst (λ m. First headerBytes withHeader (paste held (length seen) portion m)) none-past (put-in headerBytes seen held portion toFirst (omega (arith, holds .room)) within before) in
+      let lacked = put-in headerBytes seen held portion toFirst (omega (arith, holds .room)) within before in
+      let put = subst (λ m. First headerBytes withHeader (paste held (length seen) portion m)) none-past lacked in
       subst (λ j. take j (paste held (length seen) portion toFirst) ≡ take j withHeader) upto put
 
   pub holds-header : Holds withHeader (heldHeader (length seen) held portion)
@@ -127,7 +128,8 @@ module _ (seen held portion : List ℕ) (holds : Holds seen held) where
   holds-kept : headerBytes ≤ length seen → First (kept withBody) withBody (heldBody (length seen) held portion)
   unfolding heldBody
   holds-kept there =
-      let put = put-in (kept seen) seen held portion onBody (omega (arith, keeps-room seen, holds .room)) (body-within (length seen) held portion) (holds .same) in
+      let fits : kept seen ≤ length held = omega (arith, keeps-room seen, holds .room) in
+      let put = put-in (kept seen) seen held portion onBody fits (body-within (length seen) held portion) (holds .same) in
       rw (more-kept seen (take onBody portion) there, held-kept seen held holds there) put
 
   holds-body : Holds withBody (heldBody (length seen) held portion)

@@ -6,7 +6,6 @@ pub mod Printed
 pub mod Turns
 pub mod Underway
 pub mod Portions
-pub mod Empty
 pub mod Texts
 pub mod Sample
 pub mod Nothing

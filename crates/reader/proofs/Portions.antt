@@ -42,7 +42,7 @@ run reader held (portion ∷ portions) =
 
 module _ (input rest : List ℕ) where
   -- a reader on its way is fed a portion
-  pub feeding : (turns : ℕ) (reader : Reader) (held out portion : List ℕ) → length portion ≤ turns → Underway input reader held out (portion ++ rest)
+  feeding : (turns : ℕ) (reader : Reader) (held out portion : List ℕ) → length portion ≤ turns → Underway input reader held out (portion ++ rest)
       → let after = fed turns reader held portion in Underway input (after .reader) (after .held) (out ++ after .out) rest
   unfolding fed
   feeding zero reader held out [] few way = rw (append-nil out) way
@@ -59,14 +59,15 @@ module _ (input rest : List ℕ) where
       rw (← append-assoc out (text reader held portion) (fed turns next held′ behind .out)) later
 
 -- and all those that are still to come
-pub running : (input : List ℕ) (portions : List (List ℕ)) (reader : Reader) (held out : List ℕ) → Underway input reader held out (flatten portions)
+running : (input : List ℕ) (portions : List (List ℕ)) (reader : Reader) (held out : List ℕ) → Underway input reader held out (flatten portions)
     → out ++ run reader held portions ≡ prints 0 input
 unfolding run flatten
 running input [] reader held out way = underway-end input reader held out way
 running input (portion ∷ portions) reader held out way =
     let after = fed (length portion) reader held portion in
+    let on = feeding input (flatten portions) (length portion) reader held out portion (omega arith) way in
     sym (append-assoc out (after .out) (run (after .reader) (after .held) portions))
-    ∙ running input portions (after .reader) (after .held) (out ++ after .out) (feeding input (flatten portions) (length portion) reader held out portion (omega arith) way)
+    ∙ running input portions (after .reader) (after .held) (out ++ after .out) on
 
 -- of an input of any length, the first 2^63 bytes in portions
 pub whatever-cut : (input : List ℕ) (portions : List (List ℕ)) (held : List ℕ) → flatten portions ≡ take (2 ^ 63) input → length held ≡ longestRecord
@@ -82,8 +83,8 @@ pub whatever-cut-all : (portions : List (List ℕ)) (held : List ℕ) → length
 whatever-cut-all portions held few room = whatever-cut (flatten portions) portions held (sym (take-all (2 ^ 63) (flatten portions) few)) room
 
 -- two ways to cut one input print the same, whatever bytes were held before
-pub cut-either-way : (one other : List (List ℕ)) (held held′ : List ℕ) → flatten one ≡ flatten other → length held ≡ longestRecord → length held′ ≡ longestRecord
-    → run (reading 0 []) held one ≡ run (reading 0 []) held′ other
+pub cut-either-way : (one other : List (List ℕ)) (held held′ : List ℕ) → flatten one ≡ flatten other
+    → length held ≡ longestRecord → length held′ ≡ longestRecord → run (reading 0 []) held one ≡ run (reading 0 []) held′ other
 cut-either-way one other held held′ same room room′ =
     running (flatten one) one (reading 0 []) held [] (underway-start (flatten one) held room)
     ∙ ap (prints 0) same

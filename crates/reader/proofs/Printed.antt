@@ -40,7 +40,8 @@ module _ (bytes : List ℕ) where
 -- ---- with so many turns
 
 module _ (turns n : ℕ) (bytes : List ℕ) where
-  printed-whole : size bytes ≤ length bytes → printed (suc turns) n bytes ≡ outcomeLine (n + 1) (outcome bytes) ++ printed turns (n + 1) (drop (size bytes) bytes)
+  printed-whole : size bytes ≤ length bytes
+      → printed (suc turns) n bytes ≡ outcomeLine (n + 1) (outcome bytes) ++ printed turns (n + 1) (drop (size bytes) bytes)
   unfolding printed if_then_else_
   printed-whole h = rw (is-whole bytes h)
 
@@ -50,7 +51,7 @@ printed-cut zero n bytes h = refl
 printed-cut (suc turns) n bytes h = rw (is-cut bytes h)
 
 -- as many as there are bytes are enough, and more change nothing
-pub enough : (j k n : ℕ) (bytes : List ℕ) → length bytes ≤ j → length bytes ≤ k → printed j n bytes ≡ printed k n bytes
+enough : (j k n : ℕ) (bytes : List ℕ) → length bytes ≤ j → length bytes ≤ k → printed j n bytes ≡ printed k n bytes
 unfolding headerBytes
 enough zero k n bytes hj hk =
     let short : length bytes < size bytes = omega (arith, has-header bytes) in
@@ -79,9 +80,10 @@ module _ (n : ℕ) (bytes : List ℕ) where
   pub prints-whole : size bytes ≤ length bytes → prints n bytes ≡ outcomeLine (n + 1) (outcome bytes) ++ prints (n + 1) (drop (size bytes) bytes)
   prints-whole h =
       let rest = drop (size bytes) bytes in
+      let later = enough (length bytes) (length rest) (n + 1) rest (omega (arith, length-drop (size bytes) bytes)) (omega arith) in
       enough (length bytes) (suc (length bytes)) n bytes (omega arith) (omega arith)
       ∙ printed-whole (length bytes) n bytes h
-      ∙ ap (λ (l : List ℕ). outcomeLine (n + 1) (outcome bytes) ++ l) (enough (length bytes) (length rest) (n + 1) rest (omega (arith, length-drop (size bytes) bytes)) (omega arith))
+      ∙ ap (λ (l : List ℕ). outcomeLine (n + 1) (outcome bytes) ++ l) later
 
   pub prints-cut : length bytes < size bytes → prints n bytes ≡ ending n bytes
   prints-cut h = printed-cut (length bytes) n bytes h

@@ -33,7 +33,7 @@ module _ (reader : Reader) (held : List ℕ) where
   unfolding unfinished
   lacks-nothing header all = rw (le-ltb (reader .passed) headerBytes header, le-ltb (reader .passed) (size held) all)
 
-  pub still-lacks : unfinished reader held ≡ true → headerBytes ≤ reader .passed → reader .passed < size held
+  still-lacks : unfinished reader held ≡ true → headerBytes ≤ reader .passed → reader .passed < size held
   unfolding unfinished
   still-lacks u header = ltb-true (reader .passed) (size held) (rw (le-ltb (reader .passed) headerBytes header) at u)
 

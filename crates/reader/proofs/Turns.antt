@@ -161,7 +161,9 @@ module _ (n : ℕ) (seen held portion : List ℕ) (holds : Holds seen held) (cut
     unfolding passedOn
     lacking =
         elim (decLe headerBytes (length more)) [
-          | yes there ↦ lacks-body (passedOn (reading n seen) held portion) after (omega (arith, took-all, long, was-cut more part, held-size more after holds-more there))
+          | yes there ↦
+              let same = held-size more after holds-more there in
+              lacks-body (passedOn (reading n seen) held portion) after (omega (arith, took-all, long, was-cut more part, same))
           | no short ↦ lacks-header (passedOn (reading n seen) held portion) after (omega (arith, took-all, long))
         ]
 

@@ -83,7 +83,8 @@ module _ (n : ℕ) (seen held portion rest : List ℕ) (holds : Holds seen held)
 
   whole-turn : whole (seen ++ portion) ≡ true → Then (reading (n + 1) [])
   whole-turn all =
-      let end : size (seen ++ portion) ≡ length seen + took = omega (arith, took-record n seen held portion holds cut all, before-end n seen held portion holds cut) in
+      let record-taken = took-record n seen held portion holds cut all in
+      let end : size (seen ++ portion) ≡ length seen + took = omega (arith, record-taken, before-end n seen held portion holds cut) in
       let behind = ap (λ k. drop k (seen ++ portion)) end ∙ drop-append-add seen portion took in
       let first = prints-first n (seen ++ portion) rest (was-whole (seen ++ portion) all) in
       let text-first = ap₂ (λ (x y : List ℕ). x ++ prints (n + 1) (y ++ rest)) (sym (line n seen held portion holds cut all)) behind in
@@ -115,7 +116,8 @@ module _ (n : ℕ) (seen held portion rest : List ℕ) (holds : Holds seen held)
 
 module _ (input held out portion rest : List ℕ) where
   abbrev pub AfterTurn : Reader → Type 0
-  AfterTurn r = Underway input (readerAfter r held portion) (heldAfter r held portion) (out ++ text r held portion) (drop (taken r held portion) portion ++ rest)
+  AfterTurn r =
+      Underway input (readerAfter r held portion) (heldAfter r held portion) (out ++ text r held portion) (drop (taken r held portion) portion ++ rest)
 
   pub underway-turn : (reader : Reader) → Underway input reader held out (portion ++ rest) → AfterTurn reader
   underway-turn reader way =

@@ -1,7 +1,7 @@
 -- A reader that is fed bytes in portions: what it takes of one, what it holds, and what it prints. Assumes nothing.
 use Prim.Native.Nat.{ℕ, _+_, _-_, min}
-use mathlib.Core.Bool.{Bool, not, _||_}
-use mathlib.Core.List.{List, [], _∷_, _++_}
+use mathlib.Core.Bool.{Bool, _||_}
+use mathlib.Core.List.{List, [], _++_}
 use lib.Dec.{eqb, ltb}
 use lib.ListN.{length, drop}
 use lib.Seq.{paste}
@@ -12,7 +12,8 @@ use Rattle.record.specs.Sizes.{headerBytes, rowsAt}
 use Rattle.record.specs.Record.{bodyLength, kind, size, refusal, outcome}
 use Rattle.reader.specs.declared.Reader.{Reader}
 
--- of a record whose header is held, so many first bytes are held: all of one to be solved, the fields of one with too many rows, and of any other the header alone
+-- of a record whose header is held, so many first bytes are held: all of one to be solved, what stands before the rows of one with too many,
+-- and of any other the header alone
 unfoldable pub kept : List ℕ → ℕ
 kept held =
     let number = refusal (kind held) (bodyLength held) 0 in

@@ -11,7 +11,8 @@ use Rattle.solve.specs.declared.Answer.the-variants.{Point, Level, Across, Noth
 use Rattle.solve.specs.declared.Outcome.{Outcome}
 use Rattle.solve.specs.declared.Outcome.the-variants.{Answered, Stopped, Refused}
 use Rattle.text.specs.Sizes.{longestNumber, longestFloat, longestAnswer, longestRefusal, longestOutcome}
-use Rattle.text.specs.Lines.{pointWord, levelWord, acrossWord, nothingWord, refusedWord, numberWord, floatWord, slotWord, answerWords, refusalWords, outcomeWords}
+use Rattle.text.specs.Lines.{pointWord, levelWord, acrossWord, nothingWord, refusedWord, numberWord, floatWord, slotWord}
+use Rattle.text.specs.Lines.{answerWords, refusalWords, outcomeWords}
 use Rattle.text.proofs.Decimal.{decimal-length}
 use Rattle.text.proofs.Hex.{hex-length}
 
@@ -35,7 +36,7 @@ answer-length (Level y) = simp length-append (omega (arith, float-length y))
 answer-length (Across x) = simp length-append (omega (arith, float-length x))
 answer-length Nothing = omega arith
 
-pub refusal-length : (k : ℕ) → length (refusalWords k) ≤ longestRefusal
+refusal-length : (k : ℕ) → length (refusalWords k) ≤ longestRefusal
 unfolding refusalWords refusedWord longestRefusal
 refusal-length k = simp length-append (omega (arith, number-length k))
 

@@ -18,7 +18,7 @@ module _ (out : List ℕ) (at : ℕ) (s t : List ℕ) (fits : at + length s + le
       let before : at ≤ length out = omega arith in
       simp length-append (omega (arith, length-take-le at out before))
 
-  pub written-written : written (written out at s) (at + length s) t ≡ written out at (s ++ t)
+  written-written : written (written out at s) (at + length s) t ≡ written out at (s ++ t)
   unfolding written
   written-written =
       let k = at + length s in

@@ -41,7 +41,8 @@ returns c =
     let head = c .before .before .before .before in
     let portion = now (head .before .before .before .args .portion) in
     let n = head .take-header .result in
-    let rest : take (length portion - n) (drop n portion) ≡ drop n portion = take-all (length portion - n) (drop n portion) (simp length-drop (omega arith)) in (
+    let rest : take (length portion - n) (drop n portion) ≡ drop n portion =
+    take-all (length portion - n) (drop n portion) (simp length-drop (omega arith)) in (
       rw (← head .take-header .ensures .0, ← head .take-header .ensures .1, c .take-body .ensures .0, rest),
       (omega arith, rw (← head .take-header .ensures .0, ← head .take-header .ensures .1, ← rest) (c .take-body .ensures .1 .1)),
     )

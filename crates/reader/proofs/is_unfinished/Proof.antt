@@ -18,7 +18,6 @@ body-length-requires : tie.Need-body-length-requires
 body-length-requires c κs = search needs
 
 add-result : tie.Need-add-result
-unfolding headerBytes
 add-result c = search needs
 
 returns-2 : tie.Need-returns-2

@@ -32,14 +32,26 @@ unfolding kept if_then_else_ rowsAt
 returns-2 c =
     let number = c .before .before in
     let kind = number .before in
-    rw (← kind .kind-of .ensures, ← kind .before .body-length .ensures .0, ← number .refusal .ensures, ne-eqb _ _ (c .before .if1 .left), eq-eqb _ _ (c .if2 .taken))
+    rw (
+      ← kind .kind-of .ensures,
+      ← kind .before .body-length .ensures .0,
+      ← number .refusal .ensures,
+      ne-eqb _ _ (c .before .if1 .left),
+      eq-eqb _ _ (c .if2 .taken),
+    )
 
 returns-3 : tie.Need-returns-3
 unfolding kept if_then_else_ headerBytes
 returns-3 c =
     let number = c .before .before in
     let kind = number .before in
-    rw (← kind .kind-of .ensures, ← kind .before .body-length .ensures .0, ← number .refusal .ensures, ne-eqb _ _ (c .before .if1 .left), ne-eqb _ _ (c .if2 .left))
+    rw (
+      ← kind .kind-of .ensures,
+      ← kind .before .body-length .ensures .0,
+      ← number .refusal .ensures,
+      ne-eqb _ _ (c .before .if1 .left),
+      ne-eqb _ _ (c .if2 .left),
+    )
 
 pub kept-of-spec : {M : Type 1} → statement M
 kept-of-spec =

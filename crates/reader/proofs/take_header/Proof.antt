@@ -12,7 +12,8 @@ returns : tie.Need-returns
 unfolding headerBytes
 returns c =
     let a = c .before .before .args in
-    (sym (header-there (a .passed) (now (a .held)) (now (a .portion)) (c .if1 .taken)), sym (header-left (a .passed) (now (a .held)) (now (a .portion)) (c .if1 .taken)))
+    let none = header-there (a .passed) (now (a .held)) (now (a .portion)) (c .if1 .taken) in
+    (sym none, sym (header-left (a .passed) (now (a .held)) (now (a .portion)) (c .if1 .taken)))
 
 sub-least : tie.Need-sub-least
 sub-least c = search needs

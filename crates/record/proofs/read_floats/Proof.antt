@@ -22,11 +22,9 @@ unfolding floats
 loop-holds c = (search needs, refl, refl)
 
 mul-float-at : tie.Need-mul-float-at Inv-loop μ-loop
-unfolding mostFloats
 mul-float-at c = search needs
 
 add-float-at : tie.Need-add-float-at Inv-loop μ-loop
-unfolding mostFloats
 add-float-at c = search needs
 
 float-at-requires : tie.Need-float-at-requires Inv-loop μ-loop
@@ -34,7 +32,6 @@ unfolding longestRecord mostFloats
 float-at-requires c κs = search needs
 
 mul-out : tie.Need-mul-out Inv-loop μ-loop
-unfolding mostFloats
 mul-out c = search needs
 
 slice-write-out : tie.Need-slice-write-out Inv-loop μ-loop
@@ -52,7 +49,8 @@ loop-again c =
     let l = c .before .before .loop in
     let a = c .before .before .before .before .args in
     let inside : l .i < length (l .out) = omega arith in
-    (omega arith, length-set (l .out) (l .i) _ ∙ l .inv .1, rw (c .float-at .ensures) (floats-stored rowsAt (l .i) (now (a .bytes)) (l .out) inside (l .inv .2)))
+    let stored = floats-stored rowsAt (l .i) (now (a .bytes)) (l .out) inside (l .inv .2) in
+    (omega arith, length-set (l .out) (l .i) _ ∙ l .inv .1, rw (c .float-at .ensures) stored)
 
 same-length : tie.Need-same-length Inv-loop μ-loop
 same-length c = search needs

@@ -33,7 +33,8 @@ returns-5 c =
     let known = c .before in
     let even = known .before in
     let long = even .before in
-    rw (eq-eqb _ _ (long .before .if1 .left), le-ltb _ _ (long .if2 .left), eq-eqb _ _ (even .if3 .left), le-ltb _ _ (known .if4 .left), lt-ltb _ _ (c .if5 .taken))
+    let one = long .before in
+    rw (eq-eqb _ _ (one .if1 .left), le-ltb _ _ (long .if2 .left), eq-eqb _ _ (even .if3 .left), le-ltb _ _ (known .if4 .left), lt-ltb _ _ (c .if5 .taken))
 
 returns-6 : tie.Need-returns-6
 unfolding refusal if_then_else_ fieldBytes rowBytes recordRows
@@ -41,7 +42,8 @@ returns-6 c =
     let known = c .before in
     let even = known .before in
     let long = even .before in
-    rw (eq-eqb _ _ (long .before .if1 .left), le-ltb _ _ (long .if2 .left), eq-eqb _ _ (even .if3 .left), le-ltb _ _ (known .if4 .left), le-ltb _ _ (c .if5 .left))
+    let one = long .before in
+    rw (eq-eqb _ _ (one .if1 .left), le-ltb _ _ (long .if2 .left), eq-eqb _ _ (even .if3 .left), le-ltb _ _ (known .if4 .left), le-ltb _ _ (c .if5 .left))
 
 pub refusal-spec : {M : Type 1} → statement M
 refusal-spec = tie.close (tie.spec returns returns-2 returns-3 returns-4 returns-5 returns-6)

@@ -92,7 +92,8 @@ returns-2 c =
     let word = number .before .before .before .before in
     let g = word .before .before .before .before .a2 .given in
     let a = word .before .before .before .before .before .before .before .args in
-    rw (g .1) (then-put (now (a .out)) (a .at) levelWord (floatWord (g .0 .0)) (omega (arith, float-length (g .0 .0))) (word .put2 .ensures) (number .put-float3 .ensures))
+    let put = then-put (now (a .out)) (a .at) levelWord (floatWord (g .0 .0)) (omega (arith, float-length (g .0 .0))) in
+    rw (g .1) (put (word .put2 .ensures) (number .put-float3 .ensures))
 
 same-length-3 : tie.Need-same-length-3
 same-length-3 c = search needs
@@ -104,7 +105,8 @@ returns-3 c =
     let word = number .before .before .before .before in
     let g = word .before .before .before .before .a3 .given in
     let a = word .before .before .before .before .before .before .before .args in
-    rw (g .1) (then-put (now (a .out)) (a .at) acrossWord (floatWord (g .0 .0)) (omega (arith, float-length (g .0 .0))) (word .put3 .ensures) (number .put-float4 .ensures))
+    let put = then-put (now (a .out)) (a .at) acrossWord (floatWord (g .0 .0)) (omega (arith, float-length (g .0 .0))) in
+    rw (g .1) (put (word .put3 .ensures) (number .put-float4 .ensures))
 
 same-length-4 : tie.Need-same-length-4
 same-length-4 c = search needs

@@ -27,7 +27,8 @@ slice-aggregate-put c = search needs
 put-requires : tie.Need-put-requires
 unfolding longestLine
 put-requires c κs =
-    omega (arith, decimal-length (c .before .before .before .before .before .before .before .before .before .before .before .args .number), outcome-length (c .before .before .before .before .before .before .before .before .before .before .before .args .got))
+    let a = c .before .before .before .before .before .before .before .before .before .before .before .args in
+    omega (arith, decimal-length (a .number), outcome-length (a .got))
 
 same-length : tie.Need-same-length
 same-length c = search needs
@@ -39,7 +40,9 @@ returns c =
     let words = ended .before .before .before .before .before in
     let begun = words .before .before .before .before in
     let a = begun .before .before .before .args in
-    let put = then-two-put (now (a .out)) (a .at) (decimal (a .number)) (outcomeWords (a .got)) (10 ∷ []) (omega (arith, decimal-length (a .number), outcome-length (a .got))) in
+    let number = decimal (a .number) in
+    let outcome = outcomeWords (a .got) in
+    let put = then-two-put (now (a .out)) (a .at) number outcome (10 ∷ []) (omega (arith, decimal-length (a .number), outcome-length (a .got))) in
     put (begun .put-decimal .ensures) (words .put-outcome .ensures) (ended .put .ensures)
 
 pub put-line-spec : {M : Type 1} → statement M

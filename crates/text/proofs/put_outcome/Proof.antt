@@ -84,7 +84,8 @@ returns-3 c =
     let count = numberWord (g .0 .1 .1 .0) in
     let room : a .at + length words + length first + length second + length count ≤ length (now (a .out)) =
     omega (arith, answer-length (g .0 .0), slot-length (g .0 .1 .0 .first), slot-length (g .0 .1 .0 .second), number-length (g .0 .1 .1 .0)) in
-    let before = then-two-put (now (a .out)) (a .at) words first second (omega arith) (begun .put-answer .ensures) (sooner .put-slot .ensures) (later .put-slot2 .ensures) in
+    let rows = then-two-put (now (a .out)) (a .at) words first second (omega arith) in
+    let before = rows (begun .put-answer .ensures) (sooner .put-slot .ensures) (later .put-slot2 .ensures) in
     rw (g .1) (then-put (now (a .out)) (a .at) (words ++ first ++ second) count (simp length-append (omega arith)) before (counted .put-number .ensures))
 
 pub put-outcome-spec : {M : Type 1} → statement M
