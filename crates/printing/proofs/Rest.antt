@@ -29,5 +29,6 @@ module _ (reader : Reader) (held portion : List ℕ) (from : ℕ) (more : from <
         let some : 0 < length (rest portion from) = omega (arith, rest-length portion from) in
         omega (arith, not-past, takes-some reader held (rest portion from) lacks some)
 
-    pub no-more-lines : (most : ℕ) → reader .lines + (length portion - from) ≤ most → readerAfter reader held (rest portion from) .lines + (length portion - (from + took)) ≤ most
+    pub no-more-lines : (most : ℕ) → reader .lines + (length portion - from) ≤ most
+        → readerAfter reader held (rest portion from) .lines + (length portion - (from + took)) ≤ most
     no-more-lines most few = omega (arith, nearer, lines-after reader held (rest portion from))

@@ -4,6 +4,8 @@ ghost use mathlib.Core.Path.{_≡_};
 ghost use mathlib.Core.Bool.{true};
 ghost use Prim.Native.Nat.{_+_, _≤_, _^_};
 ghost use lib.ListN.{length};
+ghost use Rattle.text.specs.Sizes.{longestLine, longestEnd};
+ghost use Rattle.record.specs.Sizes.{mostFloats};
 ghost use Rattle.reader.specs.Reader.{unfinished};
 
 // The reader after a portion, and whether its lines were written.
@@ -18,7 +20,7 @@ fn place(out: &[u8], at: usize) -> usize
     requires { ⌜ at ≤ length (now out) ⌝ }
     ensures { λ r. ⌜ r ≤ length (now (out .entry)) ⌝ }
 {
-    if out.len() - at >= 124 {
+    if out.len() - at >= text::LONGEST_LINE {
         return at;
     }
     if io::write_all(libc::STDOUT_FILENO, &out[..at]) {
@@ -31,15 +33,15 @@ fn place(out: &[u8], at: usize) -> usize
 // sending more has it.
 pub fn print_portion(
     reader: Reader,
-    held: &mut [u8; 49207],
+    held: &mut [u8; record::LONGEST],
     floats: &mut [f64],
     portion: &[u8],
     out: &mut [u8],
 ) -> Progress
     requires { ⌜ unfinished reader (now held) ≡ true ⌝ }
     requires { ⌜ reader .lines + length (now portion) ≤ 2 ^ 63 ⌝ }
-    requires { ⌜ 6144 ≤ length (now floats) ⌝ }
-    requires { ⌜ 124 ≤ length (now out) ⌝ }
+    requires { ⌜ mostFloats ≤ length (now floats) ⌝ }
+    requires { ⌜ longestLine ≤ length (now out) ⌝ }
     ensures unfinished { λ p. ⌜ unfinished (p .reader) (now (held .exit)) ≡ true ⌝ }
     ensures lines { λ p. ⌜ p .reader .lines ≤ reader .lines + length (now (portion .entry)) ⌝ }
 {
@@ -48,16 +50,16 @@ pub fn print_portion(
     let mut at = 0;
     while from < portion.len() {
         let next = place(out, at);
-        if out.len() - next < 124 {
+        if out.len() - next < text::LONGEST_LINE {
             return Progress {
                 reader: now,
                 written: false,
             };
         }
-        let turned = reader::turn(now, held, floats, &portion[from..], out, next);
-        now = turned.reader;
-        from += turned.taken;
-        at = turned.at;
+        let took = reader::turn(now, held, floats, &portion[from..], out, next);
+        now = took.reader;
+        from += took.taken;
+        at = took.at;
     }
     let written = io::write_all(libc::STDOUT_FILENO, &out[..at]);
     Progress {
@@ -69,7 +71,7 @@ pub fn print_portion(
 // The last lines.
 pub fn print_end(reader: Reader, out: &mut [u8])
     requires { ⌜ reader .lines ≤ 2 ^ 63 ⌝ }
-    requires { ⌜ 149 ≤ length (now out) ⌝ }
+    requires { ⌜ longestLine + longestEnd ≤ length (now out) ⌝ }
 {
     let end = reader::finish(reader, out, 0);
     io::write_all(libc::STDOUT_FILENO, &out[..end]);

@@ -10,6 +10,7 @@ use lib.Seq.{take-take, take-nil}
 use lib.Ieee.{Float, binary64, ofBits}
 use Rattle.float.specs.Operators.{if_then_else_}
 use Rattle.solve.specs.declared.Outcome.the-variants.{Refused}
+use Rattle.record.specs.Sizes.{headerBytes, fieldBytes, rowsAt}
 use Rattle.record.specs.Bytes.{little, field, float, floats}
 use Rattle.record.specs.Record.{bodyLength, kind, size, normalizeByte, task, allowance, rowFloats, refusal, outcome}
 use Rattle.record.proofs.Refusals.{solved-length, solved-without, refused-alike}
@@ -17,7 +18,7 @@ use Rattle.reader.specs.Reader.{kept}
 use Rattle.reader.proofs.Kept.{by-number, number}
 
 -- some bytes from `at` on are the end of the first ones
-pub part : (k at : ℕ) (bytes : List ℕ) → take k (drop at bytes) ≡ drop at (take (at + k) bytes)
+part : (k at : ℕ) (bytes : List ℕ) → take k (drop at bytes) ≡ drop at (take (at + k) bytes)
 part k zero bytes = ap (λ n. take n bytes) (sym (zero-add k))
 part k (suc at) [] = take-nil k ∙ rw (suc-add at k)
 part k (suc at) (b ∷ bytes) = rw (suc-add at k) (part k at bytes)
@@ -28,38 +29,45 @@ module _ (n : ℕ) (a b : List ℕ) (alike : take n a ≡ take n b) where
   pub alike-less : (m : ℕ) → m ≤ n → take m a ≡ take m b
   alike-less m h = sym (take-take m n a h) ∙ ap (take m) alike ∙ take-take m n b h
 
-  pub alike-later : (m at : ℕ) → at + m ≤ n → take m (drop at a) ≡ take m (drop at b)
+  alike-later : (m at : ℕ) → at + m ≤ n → take m (drop at a) ≡ take m (drop at b)
   alike-later m at h = part m at a ∙ ap (drop at) (alike-less (at + m) h) ∙ sym (part m at b)
 
-  pub same-field : (k at : ℕ) → at + k ≤ n → field k at a ≡ field k at b
+  same-field : (k at : ℕ) → at + k ≤ n → field k at a ≡ field k at b
   unfolding field
   same-field k at h = ap little (alike-later k at h)
 
-  pub same-float : (at : ℕ) → at + 8 ≤ n → float at a ≡ float at b
+  same-float : (at : ℕ) → at + 8 ≤ n → float at a ≡ float at b
   unfolding float
   same-float at h = ap (ofBits binary64) (same-field 8 at h)
 
-  pub same-header : 6 ≤ n → (bodyLength a ≡ bodyLength b) × (kind a ≡ kind b)
-  unfolding bodyLength kind
+  same-header : headerBytes ≤ n → (bodyLength a ≡ bodyLength b) × (kind a ≡ kind b)
+  unfolding bodyLength kind headerBytes
   same-header h = (same-field 4 0 (omega arith), same-field 2 4 (omega arith))
 
-  pub same-size : 6 ≤ n → size a ≡ size b
+  pub same-size : headerBytes ≤ n → size a ≡ size b
   unfolding size
-  same-size h = ap (λ l. 6 + l) (same-header h .0)
+  same-size h = ap (λ l. headerBytes + l) (same-header h .0)
 
-  pub same-kept : 6 ≤ n → kept a ≡ kept b
+  pub same-kept : headerBytes ≤ n → kept a ≡ kept b
   unfolding kept
   same-kept h = rw (same-header h .0, same-header h .1, same-size h)
 
-  pub same-fields : 55 ≤ n → (task a ≡ task b) × (allowance a ≡ allowance b) × (normalizeByte a ≡ normalizeByte b)
-  unfolding task allowance normalizeByte
+  same-fields : rowsAt ≤ n → (task a ≡ task b) × (allowance a ≡ allowance b) × (normalizeByte a ≡ normalizeByte b)
+  unfolding task allowance normalizeByte rowsAt
   same-fields h = (
-    rw (same-float 6 (omega arith), same-float 14 (omega arith), same-float 22 (omega arith), same-float 30 (omega arith), same-field 8 38 (omega arith), same-field 1 54 (omega arith)),
+    rw (
+      same-float 6 (omega arith),
+      same-float 14 (omega arith),
+      same-float 22 (omega arith),
+      same-float 30 (omega arith),
+      same-field 8 38 (omega arith),
+      same-field 1 54 (omega arith),
+    ),
     same-field 8 46 (omega arith),
     same-field 1 54 (omega arith),
   )
 
-pub same-floats : (k n : ℕ) (a b : List ℕ) → take n a ≡ take n b → 8 * k ≤ n → floats k a ≡ floats k b
+same-floats : (k n : ℕ) (a b : List ℕ) → take n a ≡ take n b → 8 * k ≤ n → floats k a ≡ floats k b
 unfolding floats
 same-floats zero n a b alike h = refl
 same-floats (suc k) n a b alike h =
@@ -74,23 +82,24 @@ refused a not0 = rw (ne-eqb (refusal (kind a) (bodyLength a) (normalizeByte a)) 
 
 module _ (a b : List ℕ) where
   solved-alike : number a ≡ 0 → take (size a) a ≡ take (size a) b → outcome a ≡ outcome b
-  unfolding outcome size rowFloats
+  unfolding outcome size rowFloats rowsAt
   solved-alike e alike =
       let solved = solved-length (kind a) (bodyLength a) 0 e in
       let header = same-header (size a) a b alike (omega arith) in
       let fields = same-fields (size a) a b alike (omega arith) in
-      let rest = alike-later (size a) a b alike (bodyLength a - 49) 55 (omega arith) in
-      let rows = same-floats ((bodyLength a - 49) / 8) (bodyLength a - 49) (drop 55 a) (drop 55 b) rest (omega arith) in
+      let rest = alike-later (size a) a b alike (bodyLength a - fieldBytes) rowsAt (omega arith) in
+      let rows = same-floats ((bodyLength a - fieldBytes) / 8) (bodyLength a - fieldBytes) (drop rowsAt a) (drop rowsAt b) rest (omega arith) in
       rw (rows, fields .0, fields .1, fields .2, header .0, header .1)
 
-  module _ (alike : take 6 a ≡ take 6 b) where
+  module _ (alike : take headerBytes a ≡ take headerBytes b) where
     abbrev header : (bodyLength a ≡ bodyLength b) × (kind a ≡ kind b)
-    header = same-header 6 a b alike (omega arith)
+    header = same-header headerBytes a b alike (omega arith)
 
     same-number : number a ≡ number b
     same-number = rw (header .0, header .1)
 
-    both-refused : (number a ≡ 0 → ⊥) → refusal (kind a) (bodyLength a) (normalizeByte a) ≡ refusal (kind b) (bodyLength b) (normalizeByte b) → outcome a ≡ outcome b
+    both-refused : (number a ≡ 0 → ⊥) → refusal (kind a) (bodyLength a) (normalizeByte a) ≡ refusal (kind b) (bodyLength b) (normalizeByte b)
+        → outcome a ≡ outcome b
     both-refused not0 same = refused a not0 ∙ ap Refused same ∙ sym (refused b (λ e. not0 (same-number ∙ e)))
 
     other-alike : (number a ≡ 0 → ⊥) → (number a ≡ 2 → ⊥) → outcome a ≡ outcome b
@@ -99,11 +108,14 @@ module _ (a b : List ℕ) where
         let of-b = refused-alike (kind b) (bodyLength b) (normalizeByte b) (λ e. not0 (same-number ∙ e)) (λ e. not2 (same-number ∙ e)) in
         both-refused not0 (of-a ∙ same-number ∙ sym of-b)
 
-  many-alike : number a ≡ 2 → take 55 a ≡ take 55 b → outcome a ≡ outcome b
+  many-alike : number a ≡ 2 → take rowsAt a ≡ take rowsAt b → outcome a ≡ outcome b
+  unfolding rowsAt
   many-alike e alike =
-      let six = alike-less 55 a b alike 6 (omega arith) in
-      both-refused six (λ z. let no : ⊥ = omega arith in no) (rw (header six .0, header six .1, same-fields 55 a b alike (omega arith) .2))
+      let six = alike-less rowsAt a b alike headerBytes (omega arith) in
+      both-refused six (λ z. let no : ⊥ = omega arith in no) (rw (header six .0, header six .1, same-fields rowsAt a b alike (omega arith) .2))
 
   pub same-outcome : take (kept a) a ≡ take (kept a) b → outcome a ≡ outcome b
   unfolding kept
-  same-outcome = by-number (λ k. take k a ≡ take k b → outcome a ≡ outcome b) (number a) _ _ _ solved-alike many-alike (λ not0 not2 alike. other-alike alike not0 not2)
+  same-outcome =
+      let by-kept = by-number (λ k. take k a ≡ take k b → outcome a ≡ outcome b) (number a) _ _ _ in
+      by-kept solved-alike many-alike (λ not0 not2 alike. other-alike alike not0 not2)

@@ -7,6 +7,7 @@ use native.Mathlib.Nat.{zero-min}
 use native.Mathlib.Omega.{arith}
 use lib.ListN.{length, take, drop, length-append}
 use lib.Seq.{paste, paste-zero, take-paste, take-length, take-append-le, take-append-add, take-take, take-add, length-take-le}
+use Rattle.record.specs.Sizes.{headerBytes, longestRecord}
 use Rattle.record.specs.Record.{size}
 use Rattle.reader.specs.declared.Reader.{Reader}
 use Rattle.reader.specs.Reader.{kept, toHeader, heldHeader, toBody, heldBody, taken, heldAfter}
@@ -23,10 +24,10 @@ abbrev First : ℕ → List ℕ → List ℕ → Type 0
 First k seen held = take (min (length seen) k) held ≡ take (min (length seen) k) seen
 
 pub record Holds (seen held : List ℕ) : Type 0 where
-  pub room : length held ≡ 49207
+  pub room : length held ≡ longestRecord
   pub same : First (kept seen) seen held
 
-pub holds-nothing : (held : List ℕ) → length held ≡ 49207 → Holds [] held
+pub holds-nothing : (held : List ℕ) → length held ≡ longestRecord → Holds [] held
 holds-nothing held room = record { room = room; same = rw (zero-min (kept [])) }
 
 -- ---- what it tells
@@ -35,24 +36,24 @@ module _ (seen held : List ℕ) (holds : Holds seen held) where
   pub begins : (n : ℕ) → n ≤ length seen → n ≤ kept seen → take n held ≡ take n seen
   begins n among kept-too = alike-less (min (length seen) (kept seen)) held seen (holds .same) n (omega arith)
 
-  module _ (there : 6 ≤ length seen) where
-    header-alike : take 6 held ≡ take 6 seen
-    header-alike = begins 6 there (keeps-header seen)
+  module _ (there : headerBytes ≤ length seen) where
+    header-alike : take headerBytes held ≡ take headerBytes seen
+    header-alike = begins headerBytes there (keeps-header seen)
 
     pub held-size : size held ≡ size seen
-    held-size = same-size 6 held seen header-alike (omega arith)
+    held-size = same-size headerBytes held seen header-alike (omega arith)
 
-    pub held-kept : kept held ≡ kept seen
-    held-kept = same-kept 6 held seen header-alike (omega arith)
+    held-kept : kept held ≡ kept seen
+    held-kept = same-kept headerBytes held seen header-alike (omega arith)
 
 -- ---- more bytes change nothing that the header tells
 
-module _ (seen portion : List ℕ) (there : 6 ≤ length seen) where
+module _ (seen portion : List ℕ) (there : headerBytes ≤ length seen) where
   pub more-size : size (seen ++ portion) ≡ size seen
-  more-size = same-size 6 (seen ++ portion) seen (take-append-le 6 seen portion there) (omega arith)
+  more-size = same-size headerBytes (seen ++ portion) seen (take-append-le headerBytes seen portion there) (omega arith)
 
-  pub more-kept : kept (seen ++ portion) ≡ kept seen
-  more-kept = same-kept 6 (seen ++ portion) seen (take-append-le 6 seen portion there) (omega arith)
+  more-kept : kept (seen ++ portion) ≡ kept seen
+  more-kept = same-kept headerBytes (seen ++ portion) seen (take-append-le headerBytes seen portion there) (omega arith)
 
 -- ---- n bytes of a portion are seen, of which those are put in that the first k lack
 
@@ -86,7 +87,7 @@ module _ (k : ℕ) (seen held portion : List ℕ) (n : ℕ) (fits : k ≤ length
       let same = ap₂ (λ (x y : List ℕ). x ++ y) seen-first (sym (take-take m n portion (omega arith))) in
       rw upto (put ∙ same ∙ sym (take-append-add seen (take n portion) m))
 
-  pub put-in : First k more (paste held (length seen) portion m)
+  put-in : First k more (paste held (length seen) portion m)
   put-in = elim (decLe k (length seen)) [ yes h ↦ nothing-lacks h | no h ↦ some-lacks (omega arith) ]
 
 -- ---- a turn's two parts, and both
@@ -98,21 +99,22 @@ module _ (seen held portion : List ℕ) (holds : Holds seen held) where
   abbrev withHeader : List ℕ
   withHeader = seen ++ take toFirst portion
 
-  holds-first : length seen < 6 → First (kept withHeader) withHeader (heldHeader (length seen) held portion)
-  unfolding heldHeader
+  holds-first : length seen < headerBytes → First (kept withHeader) withHeader (heldHeader (length seen) held portion)
+  unfolding heldHeader longestRecord
   holds-first short =
       let within = header-within (length seen) held portion in
       let lacking = header-lacking (length seen) held portion in
-      let none-past : min (6 - length seen) toFirst ≡ toFirst = omega arith in
+      let none-past : min (headerBytes - length seen) toFirst ≡ toFirst = omega arith in
       let long = length-more seen portion toFirst within in
-      let upto : min (length withHeader) 6 ≡ min (length withHeader) (kept withHeader) = omega (arith, keeps-header withHeader) in
-      let before : First 6 seen held = begins seen held holds (min (length seen) 6) (omega arith) (omega (arith, keeps-header seen)) in
-      let put = subst (λ m. First 6 withHeader (paste held (length seen) portion m)) none-past (put-in 6 seen held portion toFirst (omega (arith, holds .room)) within before) in
+      let upto : min (length withHeader) headerBytes ≡ min (length withHeader) (kept withHeader) = omega (arith, keeps-header withHeader) in
+      let before : First headerBytes seen held = begins seen held holds (min (length seen) headerBytes) (omega arith) (omega (arith, keeps-header seen)) in
+      let lacked = put-in headerBytes seen held portion toFirst (omega (arith, holds .room)) within before in
+      let put = subst (λ m. First headerBytes withHeader (paste held (length seen) portion m)) none-past lacked in
       subst (λ j. take j (paste held (length seen) portion toFirst) ≡ take j withHeader) upto put
 
   pub holds-header : Holds withHeader (heldHeader (length seen) held portion)
   holds-header =
-      elim (decLe 6 (length seen)) [
+      elim (decLe headerBytes (length seen)) [
         | yes there ↦ rw (header-left (length seen) held portion there, header-there (length seen) held portion there, append-nil seen) holds
         | no short ↦ record { room = length-header (length seen) held portion (holds .room) ∙ holds .room; same = holds-first (omega arith) }
       ]
@@ -123,16 +125,17 @@ module _ (seen held portion : List ℕ) (holds : Holds seen held) where
   abbrev withBody : List ℕ
   withBody = seen ++ take onBody portion
 
-  holds-kept : 6 ≤ length seen → First (kept withBody) withBody (heldBody (length seen) held portion)
+  holds-kept : headerBytes ≤ length seen → First (kept withBody) withBody (heldBody (length seen) held portion)
   unfolding heldBody
   holds-kept there =
-      let put = put-in (kept seen) seen held portion onBody (omega (arith, keeps-room seen, holds .room)) (body-within (length seen) held portion) (holds .same) in
+      let fits : kept seen ≤ length held = omega (arith, keeps-room seen, holds .room) in
+      let put = put-in (kept seen) seen held portion onBody fits (body-within (length seen) held portion) (holds .same) in
       rw (more-kept seen (take onBody portion) there, held-kept seen held holds there) put
 
   holds-body : Holds withBody (heldBody (length seen) held portion)
   unfolding heldBody
   holds-body =
-      elim (decLe 6 (length seen)) [
+      elim (decLe headerBytes (length seen)) [
         | yes there ↦ record { room = length-body (length seen) held portion (holds .room) ∙ holds .room; same = holds-kept there }
         | no short ↦
             let none : onBody ≡ 0 = body-later (length seen) held portion (omega arith) in

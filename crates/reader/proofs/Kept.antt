@@ -7,6 +7,7 @@ use native.Mathlib.Omega.{arith}
 use lib.Dec.{eqb}
 use borrow.Author.Tests.{eqb-true, eqb-false}
 use Rattle.float.specs.Operators.{if_then_else_}
+use Rattle.record.specs.Sizes.{headerBytes, rowsAt, longestRecord}
 use Rattle.record.specs.Record.{bodyLength, kind, size, refusal}
 use Rattle.record.proofs.Refusals.{solved-length, many-length}
 use Rattle.reader.specs.Reader.{kept}
@@ -26,15 +27,15 @@ module _ (held : List ℕ) where
   abbrev pub number : ℕ
   number = refusal (kind held) (bodyLength held) 0
 
-  pub keeps-header : 6 ≤ kept held
-  unfolding kept size
-  keeps-header = by-number (λ k. 6 ≤ k) number _ _ _ (λ _. omega arith) (λ _. omega arith) (λ _ _. omega arith)
+  pub keeps-header : headerBytes ≤ kept held
+  unfolding kept size rowsAt
+  keeps-header = by-number (λ k. headerBytes ≤ k) number _ _ _ (λ _. omega arith) (λ _. omega arith) (λ _ _. omega arith)
 
   pub keeps-record : kept held ≤ size held
-  unfolding kept size
+  unfolding kept size rowsAt
   keeps-record =
       by-number (λ k. k ≤ size held) number _ _ _ (λ _. omega arith) (λ e. let many = many-length _ _ _ e in omega arith) (λ _ _. omega arith)
 
-  pub keeps-room : kept held ≤ 49207
-  unfolding kept size
-  keeps-room = by-number (λ k. k ≤ 49207) number _ _ _ (λ e. let solved = solved-length _ _ _ e in omega arith) (λ _. omega arith) (λ _ _. omega arith)
+  pub keeps-room : kept held ≤ longestRecord
+  unfolding kept size longestRecord
+  keeps-room = by-number (λ k. k ≤ longestRecord) number _ _ _ (λ e. let solved = solved-length _ _ _ e in omega arith) (λ _. omega arith) (λ _ _. omega arith)

@@ -5,8 +5,7 @@ pub mod Held
 pub mod Printed
 pub mod Turns
 pub mod Underway
-pub mod Cut
-pub mod Empty
+pub mod Portions
 pub mod Texts
 pub mod Sample
 pub mod Nothing

@@ -3,7 +3,7 @@ use mathlib.Core.Path.{_≡_}
 use mathlib.Core.List.{List, []}
 use Prim.Native.Nat.{ℕ, _-_, min}
 use lib.Seq.{paste-zero}
-use Rattle.lines.specs.Text.{written}
+use Rattle.text.specs.Text.{written}
 use Rattle.reader.specs.Reader.{kept, toBody, heldBody}
 
 pub nothing-kept : (passed : ℕ) (held portion : List ℕ) → min (kept held - passed) (toBody passed held portion) ≡ 0 → held ≡ heldBody passed held portion

@@ -9,7 +9,8 @@ use lib.Dec.{ltb, eqb·suc-zero}
 use borrow.Author.Tests.{lt-ltb, le-ltb}
 use lib.ListN.{length, take, drop, length-drop}
 use Rattle.float.specs.Operators.{if_then_else_}
-use Rattle.lines.specs.Lines.{outcomeLine}
+use Rattle.text.specs.Lines.{outcomeLine}
+use Rattle.record.specs.Sizes.{headerBytes}
 use Rattle.record.specs.Record.{size, outcome}
 use Rattle.reader.specs.Stream.{whole, ending, printed, output}
 use Rattle.reader.specs.Reader.{lastText}
@@ -18,17 +19,17 @@ use Rattle.reader.proofs.Held.{reading}
 -- ---- whether the first record is all there
 
 module _ (bytes : List ℕ) where
-  pub has-header : 6 ≤ size bytes
+  pub has-header : headerBytes ≤ size bytes
   unfolding size
   has-header = omega arith
 
   is-whole : size bytes ≤ length bytes → whole bytes ≡ true
   unfolding whole
-  is-whole h = rw (le-ltb (length bytes) 6 (omega (arith, has-header)), le-ltb (length bytes) (size bytes) h)
+  is-whole h = rw (le-ltb (length bytes) headerBytes (omega (arith, has-header)), le-ltb (length bytes) (size bytes) h)
 
   pub is-cut : length bytes < size bytes → whole bytes ≡ false
   unfolding whole
-  is-cut h = rw (lt-ltb (length bytes) (size bytes) h) (and-false (not (ltb (length bytes) 6)))
+  is-cut h = rw (lt-ltb (length bytes) (size bytes) h) (and-false (not (ltb (length bytes) headerBytes)))
 
   pub was-whole : whole bytes ≡ true → size bytes ≤ length bytes
   was-whole e = elim (decLe (size bytes) (length bytes)) [ yes h ↦ h | no h ↦ absurd (true≢false (sym e ∙ is-cut (omega arith))) ]
@@ -39,7 +40,8 @@ module _ (bytes : List ℕ) where
 -- ---- with so many turns
 
 module _ (turns n : ℕ) (bytes : List ℕ) where
-  printed-whole : size bytes ≤ length bytes → printed (suc turns) n bytes ≡ outcomeLine (n + 1) (outcome bytes) ++ printed turns (n + 1) (drop (size bytes) bytes)
+  printed-whole : size bytes ≤ length bytes
+      → printed (suc turns) n bytes ≡ outcomeLine (n + 1) (outcome bytes) ++ printed turns (n + 1) (drop (size bytes) bytes)
   unfolding printed if_then_else_
   printed-whole h = rw (is-whole bytes h)
 
@@ -49,7 +51,8 @@ printed-cut zero n bytes h = refl
 printed-cut (suc turns) n bytes h = rw (is-cut bytes h)
 
 -- as many as there are bytes are enough, and more change nothing
-pub enough : (j k n : ℕ) (bytes : List ℕ) → length bytes ≤ j → length bytes ≤ k → printed j n bytes ≡ printed k n bytes
+enough : (j k n : ℕ) (bytes : List ℕ) → length bytes ≤ j → length bytes ≤ k → printed j n bytes ≡ printed k n bytes
+unfolding headerBytes
 enough zero k n bytes hj hk =
     let short : length bytes < size bytes = omega (arith, has-header bytes) in
     printed-cut zero n bytes short ∙ sym (printed-cut k n bytes short)
@@ -77,9 +80,10 @@ module _ (n : ℕ) (bytes : List ℕ) where
   pub prints-whole : size bytes ≤ length bytes → prints n bytes ≡ outcomeLine (n + 1) (outcome bytes) ++ prints (n + 1) (drop (size bytes) bytes)
   prints-whole h =
       let rest = drop (size bytes) bytes in
+      let later = enough (length bytes) (length rest) (n + 1) rest (omega (arith, length-drop (size bytes) bytes)) (omega arith) in
       enough (length bytes) (suc (length bytes)) n bytes (omega arith) (omega arith)
       ∙ printed-whole (length bytes) n bytes h
-      ∙ ap (λ (l : List ℕ). outcomeLine (n + 1) (outcome bytes) ++ l) (enough (length bytes) (length rest) (n + 1) rest (omega (arith, length-drop (size bytes) bytes)) (omega arith))
+      ∙ ap (λ (l : List ℕ). outcomeLine (n + 1) (outcome bytes) ++ l) later
 
   pub prints-cut : length bytes < size bytes → prints n bytes ≡ ending n bytes
   prints-cut h = printed-cut (length bytes) n bytes h

@@ -12,6 +12,7 @@ use borrow.Author.Tests.{lt-ltb, le-ltb, ltb-true}
 use lib.ListN.{length, drop, length-drop}
 use lib.Seq.{paste-zero, length-paste}
 use Rattle.float.specs.Operators.{if_then_else_}
+use Rattle.record.specs.Sizes.{headerBytes, longestRecord}
 use Rattle.record.specs.Record.{size}
 use Rattle.reader.specs.declared.Reader.{Reader}
 use Rattle.reader.specs.Reader.{kept, unfinished, toHeader, heldHeader, toBody, heldBody, taken, heldAfter, passedOn, readerAfter}
@@ -20,24 +21,25 @@ use Rattle.reader.proofs.Kept.{keeps-room}
 -- ---- whether the record in hand is all there
 
 module _ (reader : Reader) (held : List ℕ) where
-  pub lacks-header : reader .passed < 6 → unfinished reader held ≡ true
+  pub lacks-header : reader .passed < headerBytes → unfinished reader held ≡ true
   unfolding unfinished
-  lacks-header short = rw (lt-ltb (reader .passed) 6 short)
+  lacks-header short = rw (lt-ltb (reader .passed) headerBytes short)
 
   pub lacks-body : reader .passed < size held → unfinished reader held ≡ true
   unfolding unfinished
-  lacks-body short = rw (lt-ltb (reader .passed) (size held) short) (or-true (ltb (reader .passed) 6))
+  lacks-body short = rw (lt-ltb (reader .passed) (size held) short) (or-true (ltb (reader .passed) headerBytes))
 
-  pub lacks-nothing : 6 ≤ reader .passed → size held ≤ reader .passed → unfinished reader held ≡ false
+  pub lacks-nothing : headerBytes ≤ reader .passed → size held ≤ reader .passed → unfinished reader held ≡ false
   unfolding unfinished
-  lacks-nothing header all = rw (le-ltb (reader .passed) 6 header, le-ltb (reader .passed) (size held) all)
+  lacks-nothing header all = rw (le-ltb (reader .passed) headerBytes header, le-ltb (reader .passed) (size held) all)
 
-  pub still-lacks : unfinished reader held ≡ true → 6 ≤ reader .passed → reader .passed < size held
+  still-lacks : unfinished reader held ≡ true → headerBytes ≤ reader .passed → reader .passed < size held
   unfolding unfinished
-  still-lacks u header = ltb-true (reader .passed) (size held) (rw (le-ltb (reader .passed) 6 header) at u)
+  still-lacks u header = ltb-true (reader .passed) (size held) (rw (le-ltb (reader .passed) headerBytes header) at u)
 
   -- at the start, and after each line
   pub unfinished-start : reader .passed ≡ 0 → unfinished reader held ≡ true
+  unfolding headerBytes
   unfinished-start none = lacks-header (omega arith)
 
 -- ---- what goes to the header
@@ -47,23 +49,23 @@ module _ (passed : ℕ) (held portion : List ℕ) where
   unfolding toHeader
   header-within = omega arith
 
-  pub header-lacking : toHeader passed portion ≤ 6 - passed
+  pub header-lacking : toHeader passed portion ≤ headerBytes - passed
   unfolding toHeader
   header-lacking = omega arith
 
   -- nothing once it is there
-  pub header-there : 6 ≤ passed → toHeader passed portion ≡ 0
+  pub header-there : headerBytes ≤ passed → toHeader passed portion ≡ 0
   unfolding toHeader
   header-there there = omega arith
 
-  pub header-left : 6 ≤ passed → heldHeader passed held portion ≡ held
+  pub header-left : headerBytes ≤ passed → heldHeader passed held portion ≡ held
   unfolding heldHeader
   header-left there = rw (header-there there) (sym (paste-zero held passed portion))
 
-  pub length-header : length held ≡ 49207 → length (heldHeader passed held portion) ≡ length held
-  unfolding heldHeader toHeader
+  pub length-header : length held ≡ longestRecord → length (heldHeader passed held portion) ≡ length held
+  unfolding heldHeader toHeader longestRecord
   length-header room =
-      elim (decLe 6 passed) [
+      elim (decLe headerBytes passed) [
         | yes there ↦ rw (header-left there)
         | no short ↦ length-paste held passed portion (toHeader passed portion) (omega arith) (omega arith)
       ]
@@ -72,22 +74,22 @@ module _ (passed : ℕ) (held portion : List ℕ) where
 
 module _ (passed : ℕ) (held portion : List ℕ) where
   -- nothing before the header is there
-  pub body-later : passed < 6 → toBody passed held portion ≡ 0
+  pub body-later : passed < headerBytes → toBody passed held portion ≡ 0
   unfolding toBody if_then_else_
-  body-later short = rw (lt-ltb passed 6 short)
+  body-later short = rw (lt-ltb passed headerBytes short)
 
-  pub body-now : 6 ≤ passed → toBody passed held portion ≡ min (size held - passed) (length portion)
+  pub body-now : headerBytes ≤ passed → toBody passed held portion ≡ min (size held - passed) (length portion)
   unfolding toBody if_then_else_
-  body-now there = rw (le-ltb passed 6 there)
+  body-now there = rw (le-ltb passed headerBytes there)
 
   pub body-within : toBody passed held portion ≤ length portion
   body-within =
-      elim (decLe 6 passed) [
+      elim (decLe headerBytes passed) [
         | yes there ↦ omega (arith, body-now there)
         | no short ↦ let later = body-later (omega arith) in omega arith
       ]
 
-  pub length-body : length held ≡ 49207 → length (heldBody passed held portion) ≡ length held
+  pub length-body : length held ≡ longestRecord → length (heldBody passed held portion) ≡ length held
   unfolding heldBody
   length-body room =
       let n = min (kept held - passed) (toBody passed held portion) in
@@ -108,7 +110,7 @@ module _ (reader : Reader) (held portion : List ℕ) where
       let rest = body-within (reader .passed + first) (heldHeader (reader .passed) held portion) (drop first portion) in
       omega (arith, header-within (reader .passed) held portion, length-drop first portion)
 
-  taken-body : 6 ≤ reader .passed → taken reader held portion ≡ min (size held - reader .passed) (length portion)
+  taken-body : headerBytes ≤ reader .passed → taken reader held portion ≡ min (size held - reader .passed) (length portion)
   unfolding taken
   taken-body there =
       let header = header-there (reader .passed) held portion there in
@@ -119,7 +121,7 @@ module _ (reader : Reader) (held portion : List ℕ) where
   pub takes-some : unfinished reader held ≡ true → 0 < length portion → 0 < taken reader held portion
   unfolding taken toHeader
   takes-some u some =
-      elim (decLe 6 (reader .passed)) [
+      elim (decLe headerBytes (reader .passed)) [
         | yes there ↦ omega (arith, taken-body there, still-lacks reader held u there)
         | no short ↦ omega arith
       ]
@@ -146,7 +148,7 @@ module _ (reader : Reader) (held portion : List ℕ) where
       go true = omega arith
       go false = omega arith
 
-  pub length-after : length held ≡ 49207 → length (heldAfter reader held portion) ≡ 49207
+  pub length-after : length held ≡ longestRecord → length (heldAfter reader held portion) ≡ longestRecord
   unfolding heldAfter
   length-after room =
       let header = length-header (reader .passed) held portion room ∙ room in

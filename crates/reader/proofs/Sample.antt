@@ -1,22 +1,18 @@
 -- Whole inputs and what they print: one table under one statement, which is proved by computing every line. Assumes nothing.
 use mathlib.Core.Path.{_≡_, refl}
-use mathlib.Core.List.{List, [] as none, _∷_ as _then_}
+use mathlib.Core.List.{List, _++_, [] as none, _∷_ as _then_}
 use Prim.Native.Nat.{ℕ}
-use Prim.Native.Char.{code}
-use Prim.Native.String.{String, [], _∷_}
+use Prim.Native.String.{String}
 use lib.ListN.{replicate}
-use mathlib.Core.List.{_++_}
 use Rattle.float.specs.Operators.{if_then_else_}
-use Rattle.lines.specs.Text.{glyph, decimalWithin, decimal}
-use Rattle.lines.specs.Lines.{refusedWord, numberWord, refusalWords, outcomeWords, outcomeLine, endLine}
+use Rattle.text.specs.Sizes.{longestDecimal}
+use Rattle.text.specs.Text.{glyph, decimalWithin, decimal}
+use Rattle.text.specs.Lines.{refusedWord, numberWord, refusalWords, outcomeWords, outcomeLine, endLine}
+use Rattle.text.proofs.Sample.{ascii}
+use Rattle.record.specs.Sizes.{headerBytes, fieldBytes, rowBytes, recordRows}
 use Rattle.record.specs.Bytes.{little, field}
 use Rattle.record.specs.Record.{bodyLength, kind, size, normalizeByte, refusal, outcome}
 use Rattle.reader.specs.Stream.{whole, ending, printed, output}
-
--- the ASCII codes of a text
-abbrev ascii : String → List ℕ
-ascii [] = none
-ascii (c ∷ s) = code c then ascii s
 
 infix 30 _prints_
 abbrev _prints_ : List ℕ → String → Type 0
@@ -38,5 +34,6 @@ Sample =
 
 pub sample : Sample
 unfolding
-    if_then_else_ glyph decimalWithin decimal refusedWord numberWord refusalWords outcomeWords outcomeLine endLine little field bodyLength kind size normalizeByte refusal outcome whole ending printed output
+    if_then_else_ glyph longestDecimal decimalWithin decimal refusedWord numberWord refusalWords outcomeWords outcomeLine endLine little field
+    headerBytes fieldBytes rowBytes recordRows bodyLength kind size normalizeByte refusal outcome whole ending printed output
 sample = (refl, refl, refl, refl, refl, refl)

@@ -9,7 +9,8 @@ use native.Mathlib.Omega.{arith}
 use lib.ListN.{length, take, drop, length-append, length-drop, take-append-drop}
 use lib.Seq.{take-append-le, take-length}
 use Rattle.float.specs.Operators.{if_then_else_}
-use Rattle.lines.specs.Lines.{outcomeLine}
+use Rattle.text.specs.Lines.{outcomeLine}
+use Rattle.record.specs.Sizes.{headerBytes}
 use Rattle.record.specs.Record.{size, outcome}
 use Rattle.reader.specs.Stream.{whole}
 use Rattle.reader.specs.declared.Reader.{Reader}
@@ -53,11 +54,11 @@ module _ (seen portion : List ℕ) (k : ℕ) where
       sym (take-append-le j some (drop k portion) h)
       ∙ ap (take j) (append-assoc seen (take k portion) (drop k portion) ∙ ap (λ (l : List ℕ). seen ++ l) (take-append-drop k portion))
 
-  some-size : 6 ≤ length some → size some ≡ size (seen ++ portion)
-  some-size there = same-size 6 some (seen ++ portion) (some-first 6 there) (omega arith)
+  some-size : headerBytes ≤ length some → size some ≡ size (seen ++ portion)
+  some-size there = same-size headerBytes some (seen ++ portion) (some-first headerBytes there) (omega arith)
 
-  some-kept : 6 ≤ length some → kept some ≡ kept (seen ++ portion)
-  some-kept there = same-kept 6 some (seen ++ portion) (some-first 6 there) (omega arith)
+  some-kept : headerBytes ≤ length some → kept some ≡ kept (seen ++ portion)
+  some-kept there = same-kept headerBytes some (seen ++ portion) (some-first headerBytes there) (omega arith)
 
 -- ---- of such a reader
 
@@ -80,7 +81,7 @@ module _ (n : ℕ) (seen held portion : List ℕ) (holds : Holds seen held) (cut
 
   pub before-end : length seen < size more
   before-end =
-      elim (decLe 6 (length seen)) [
+      elim (decLe headerBytes (length seen)) [
         | yes there ↦ omega (arith, was-cut seen cut, more-size seen portion there)
         | no short ↦ omega (arith, has-header more)
       ]
@@ -95,9 +96,9 @@ module _ (n : ℕ) (seen held portion : List ℕ) (holds : Holds seen held) (cut
       let left = length-drop first portion in
       let header = has-header more in
       let seen-first = length-more seen portion first (header-within (length seen) held portion) in
-      elim (decLe 6 (length more)) [
+      elim (decLe headerBytes (length more)) [
         | yes there ↦
-            let enough : 6 ≤ length (seen ++ take first portion) = omega (arith, long) in
+            let enough : headerBytes ≤ length (seen ++ take first portion) = omega (arith, long) in
             let same = held-size (seen ++ take first portion) held′ (holds-header seen held portion holds) enough ∙ some-size seen portion first enough in
             ap (λ b. first + b) (body-now (length seen + first) held′ rest (omega (arith, long)) ∙ ap₂ (λ x y. min (x - (length seen + first)) y) same left)
             ∙ two-parts (length seen) (length portion) (size more) first (omega (arith, before-end)) (omega arith)
@@ -109,7 +110,7 @@ module _ (n : ℕ) (seen held portion : List ℕ) (holds : Holds seen held) (cut
   seen-now : length (seen ++ take took portion) ≡ length seen + took
   seen-now = length-more seen portion took (takes-no-more (reading n seen) held portion)
 
-  size-now : 6 ≤ length (seen ++ take took portion) → size after ≡ size more
+  size-now : headerBytes ≤ length (seen ++ take took portion) → size after ≡ size more
   size-now there = held-size (seen ++ take took portion) after (holds-after n seen held portion holds) there ∙ some-size seen portion took there
 
   -- ---- the record is then all there
@@ -121,7 +122,7 @@ module _ (n : ℕ) (seen held portion : List ℕ) (holds : Holds seen held) (cut
     to-end : length (seen ++ take took portion) ≡ size more
     to-end = omega (arith, seen-now, took-record, before-end)
 
-    there : 6 ≤ length (seen ++ take took portion)
+    there : headerBytes ≤ length (seen ++ take took portion)
     there = omega (arith, to-end, has-header more)
 
     finished : unfinished (passedOn (reading n seen) held portion) after ≡ false
@@ -159,8 +160,10 @@ module _ (n : ℕ) (seen held portion : List ℕ) (holds : Holds seen held) (cut
     lacking : unfinished (passedOn (reading n seen) held portion) after ≡ true
     unfolding passedOn
     lacking =
-        elim (decLe 6 (length more)) [
-          | yes there ↦ lacks-body (passedOn (reading n seen) held portion) after (omega (arith, took-all, long, was-cut more part, held-size more after holds-more there))
+        elim (decLe headerBytes (length more)) [
+          | yes there ↦
+              let same = held-size more after holds-more there in
+              lacks-body (passedOn (reading n seen) held portion) after (omega (arith, took-all, long, was-cut more part, same))
           | no short ↦ lacks-header (passedOn (reading n seen) held portion) after (omega (arith, took-all, long))
         ]
 

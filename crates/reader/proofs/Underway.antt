@@ -9,7 +9,8 @@ use native.Mathlib.Omega.{arith}
 use lib.ListN.{length, drop, length-append}
 use lib.Seq.{take-append-le, drop-append-le, drop-append-add, drop-length}
 use Rattle.solve.specs.declared.Outcome.{Outcome}
-use Rattle.lines.specs.Lines.{outcomeLine}
+use Rattle.text.specs.Lines.{outcomeLine}
+use Rattle.record.specs.Sizes.{headerBytes, longestRecord}
 use Rattle.record.specs.Record.{size, outcome}
 use Rattle.reader.specs.Stream.{whole}
 use Rattle.reader.specs.declared.Reader.{Reader}
@@ -31,9 +32,10 @@ pub record Underway (input : List ℕ) (reader : Reader) (held out rest : List �
   pub left : prints 0 input ≡ out ++ prints (reader .lines) (seen ++ rest)
 
 none-cut : whole [] ≡ false
+unfolding headerBytes
 none-cut = is-cut [] (omega (arith, has-header []))
 
-pub underway-start : (input held : List ℕ) → length held ≡ 49207 → Underway input (reading 0 []) held [] input
+pub underway-start : (input held : List ℕ) → length held ≡ longestRecord → Underway input (reading 0 []) held [] input
 underway-start input held room = record { seen = []; passed = refl; cut = none-cut; holds = holds-nothing held room; left = refl }
 
 pub underway-unfinished : (input : List ℕ) (reader : Reader) (held out rest : List ℕ) → Underway input reader held out rest
@@ -41,7 +43,7 @@ pub underway-unfinished : (input : List ℕ) (reader : Reader) (held out rest : 
 underway-unfinished input reader held out rest way =
     let short = was-cut (way .seen) (way .cut) in
     let all = way .passed in
-    elim (decLe 6 (length (way .seen))) [
+    elim (decLe headerBytes (length (way .seen))) [
       | yes there ↦ lacks-body reader held (omega (arith, held-size (way .seen) held (way .holds) there))
       | no fewer ↦ lacks-header reader held (omega arith)
     ]
@@ -81,7 +83,8 @@ module _ (n : ℕ) (seen held portion rest : List ℕ) (holds : Holds seen held)
 
   whole-turn : whole (seen ++ portion) ≡ true → Then (reading (n + 1) [])
   whole-turn all =
-      let end : size (seen ++ portion) ≡ length seen + took = omega (arith, took-record n seen held portion holds cut all, before-end n seen held portion holds cut) in
+      let record-taken = took-record n seen held portion holds cut all in
+      let end : size (seen ++ portion) ≡ length seen + took = omega (arith, record-taken, before-end n seen held portion holds cut) in
       let behind = ap (λ k. drop k (seen ++ portion)) end ∙ drop-append-add seen portion took in
       let first = prints-first n (seen ++ portion) rest (was-whole (seen ++ portion) all) in
       let text-first = ap₂ (λ (x y : List ℕ). x ++ prints (n + 1) (y ++ rest)) (sym (line n seen held portion holds cut all)) behind in
@@ -113,7 +116,8 @@ module _ (n : ℕ) (seen held portion rest : List ℕ) (holds : Holds seen held)
 
 module _ (input held out portion rest : List ℕ) where
   abbrev pub AfterTurn : Reader → Type 0
-  AfterTurn r = Underway input (readerAfter r held portion) (heldAfter r held portion) (out ++ text r held portion) (drop (taken r held portion) portion ++ rest)
+  AfterTurn r =
+      Underway input (readerAfter r held portion) (heldAfter r held portion) (out ++ text r held portion) (drop (taken r held portion) portion ++ rest)
 
   pub underway-turn : (reader : Reader) → Underway input reader held out (portion ++ rest) → AfterTurn reader
   underway-turn reader way =

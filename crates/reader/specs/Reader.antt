@@ -1,38 +1,40 @@
 -- A reader that is fed bytes in portions: what it takes of one, what it holds, and what it prints. Assumes nothing.
 use Prim.Native.Nat.{ℕ, _+_, _-_, min}
-use mathlib.Core.Bool.{Bool, not, _||_}
-use mathlib.Core.List.{List, [], _∷_, _++_}
+use mathlib.Core.Bool.{Bool, _||_}
+use mathlib.Core.List.{List, [], _++_}
 use lib.Dec.{eqb, ltb}
 use lib.ListN.{length, drop}
 use lib.Seq.{paste}
 use Rattle.float.specs.Operators.{if_then_else_}
 use Rattle.solve.specs.declared.Outcome.the-variants.{Refused}
-use Rattle.lines.specs.Lines.{outcomeLine, endLine}
+use Rattle.text.specs.Lines.{outcomeLine, endLine}
+use Rattle.record.specs.Sizes.{headerBytes, rowsAt}
 use Rattle.record.specs.Record.{bodyLength, kind, size, refusal, outcome}
 use Rattle.reader.specs.declared.Reader.{Reader}
 
--- of a record whose header is held, so many first bytes are held: all of one to be solved, the fields of one with too many rows, and of any other the header alone
+-- of a record whose header is held, so many first bytes are held: all of one to be solved, what stands before the rows of one with too many,
+-- and of any other the header alone
 unfoldable pub kept : List ℕ → ℕ
 kept held =
     let number = refusal (kind held) (bodyLength held) 0 in
-    if eqb number 0 then size held else if eqb number 2 then 55 else 6
+    if eqb number 0 then size held else if eqb number 2 then rowsAt else headerBytes
 
 -- the record in hand is not all there
 unfoldable pub unfinished : Reader → List ℕ → Bool
-unfinished reader held = ltb (reader .passed) 6 || ltb (reader .passed) (size held)
+unfinished reader held = ltb (reader .passed) headerBytes || ltb (reader .passed) (size held)
 
 -- ---- one portion: first what the header lacks, then what the record lacks, of which what is not kept is passed over
 
 -- how many bytes of a portion go to the header, and what is then held
 unfoldable pub toHeader : ℕ → List ℕ → ℕ
-toHeader passed portion = min (6 - passed) (length portion)
+toHeader passed portion = min (headerBytes - passed) (length portion)
 
 unfoldable pub heldHeader : ℕ → List ℕ → List ℕ → List ℕ
 heldHeader passed held portion = paste held passed portion (toHeader passed portion)
 
 -- how many go on to the body of the record in hand, and what is then held
 unfoldable pub toBody : ℕ → List ℕ → List ℕ → ℕ
-toBody passed held portion = if ltb passed 6 then 0 else min (size held - passed) (length portion)
+toBody passed held portion = if ltb passed headerBytes then 0 else min (size held - passed) (length portion)
 
 unfoldable pub heldBody : ℕ → List ℕ → List ℕ → List ℕ
 heldBody passed held portion = paste held passed portion (min (kept held - passed) (toBody passed held portion))

@@ -6,19 +6,20 @@ use lib.Dec.{ltb}
 use lib.ListN.{length, take, drop}
 use Rattle.float.specs.Operators.{if_then_else_}
 use Rattle.solve.specs.declared.Outcome.the-variants.{Refused}
-use Rattle.lines.specs.Lines.{outcomeLine, endLine}
+use Rattle.text.specs.Lines.{outcomeLine, endLine}
+use Rattle.record.specs.Sizes.{headerBytes}
 use Rattle.record.specs.Record.{size, outcome}
 
 -- the first record is all there
 unfoldable pub whole : List ℕ → Bool
-whole bytes = not (ltb (length bytes) 6) && not (ltb (length bytes) (size bytes))
+whole bytes = not (ltb (length bytes) headerBytes) && not (ltb (length bytes) (size bytes))
 
 -- what is printed where the input ends after n lines, within these bytes of a record: refusal 8 where there are some
 unfoldable pub ending : ℕ → List ℕ → List ℕ
 ending n [] = endLine n
 ending n (b ∷ bytes) = outcomeLine (n + 1) (Refused 8) ++ endLine (n + 1)
 
--- what is printed for these bytes after n lines; a record has 6 bytes at least, so that as many turns as bytes are enough
+-- what is printed for these bytes after n lines; a record has a header, so that as many turns as bytes are enough
 unfoldable pub printed : ℕ → ℕ → List ℕ → List ℕ
 printed zero n bytes = ending n bytes
 printed (suc turns) n bytes =

@@ -5,7 +5,9 @@ ghost use mathlib.Core.Path.{_≡_};
 ghost use Prim.Native.Nat.{_+_, _≤_, _<_, _^_, min};
 ghost use lib.ListN.{length};
 ghost use lib.Seq.{paste};
-ghost use Rattle.lines.specs.Text.{written};
+ghost use Rattle.text.specs.Sizes.{longestLine, longestEnd};
+ghost use Rattle.text.specs.Text.{written};
+ghost use Rattle.record.specs.Sizes.{longestRecord, mostFloats};
 ghost use Rattle.reader.specs.Reader.{kept, unfinished, toHeader, heldHeader, toBody, heldBody, taken, heldAfter, readerAfter, text, lastText};
 
 pub struct Reader {
@@ -16,7 +18,7 @@ pub struct Reader {
 }
 
 // What a turn leaves: the reader, how many bytes of the portion it took, and where the printed text ends.
-pub struct Turned {
+pub struct Took {
     pub reader: Reader,
     pub taken: usize,
     pub at: usize,
@@ -38,58 +40,58 @@ fn least(a: usize, b: usize) -> usize
 }
 
 // The first n bytes of src into held from `to` on.
-fn copy(src: &[u8], held: &mut [u8; 49207], to: usize, n: usize)
+fn copy(src: &[u8], held: &mut [u8; record::LONGEST], to: usize, n: usize)
     requires { ⌜ n ≤ length (now src) ⌝ }
-    requires { ⌜ to + n ≤ 49207 ⌝ }
+    requires { ⌜ to + n ≤ longestRecord ⌝ }
     ensures { λ _. ⌜ now (held .exit) ≡ paste (now (held .entry)) to (now (src .entry)) n ⌝ }
 {
-    lines::put(held, to, &src[..n]);
+    text::put(held, to, &src[..n]);
 }
 
-fn kept_of(held: &[u8; 49207]) -> usize
+fn kept_of(held: &[u8; record::LONGEST]) -> usize
     ensures { λ r. ⌜ r ≡ kept (now (held .entry)) ⌝ }
 {
     let length = record::body_length(held);
     let number = record::refusal(record::kind_of(held), length, 0);
     if number == 0 {
-        return 6 + length as usize;
+        return record::HEADER + length as usize;
     }
     if number == 2 {
-        return 55;
+        return record::ROWS_AT;
     }
-    6
+    record::HEADER
 }
 
-fn is_unfinished(reader: Reader, held: &[u8; 49207]) -> bool
+fn is_unfinished(reader: Reader, held: &[u8; record::LONGEST]) -> bool
     ensures { λ b. ⌜ b ≡ unfinished reader (now (held .entry)) ⌝ }
 {
-    if reader.passed < 6 {
+    if reader.passed < record::HEADER {
         return true;
     }
-    reader.passed < 6 + record::body_length(held) as usize
+    reader.passed < record::HEADER + record::body_length(held) as usize
 }
 
-fn take_header(passed: usize, held: &mut [u8; 49207], portion: &[u8]) -> usize
+fn take_header(passed: usize, held: &mut [u8; record::LONGEST], portion: &[u8]) -> usize
     ensures taken { λ r. ⌜ r ≡ toHeader passed (now (portion .entry)) ⌝ }
     ensures held { λ _. ⌜ now (held .exit) ≡ heldHeader passed (now (held .entry)) (now (portion .entry)) ⌝ }
 {
-    if passed >= 6 {
+    if passed >= record::HEADER {
         return 0;
     }
-    let n = least(6 - passed, portion.len());
+    let n = least(record::HEADER - passed, portion.len());
     copy(portion, held, passed, n);
     n
 }
 
-fn take_body(passed: usize, held: &mut [u8; 49207], portion: &[u8]) -> usize
+fn take_body(passed: usize, held: &mut [u8; record::LONGEST], portion: &[u8]) -> usize
     ensures taken { λ r. ⌜ r ≡ toBody passed (now (held .entry)) (now (portion .entry)) ⌝ }
     ensures fits { λ r. ⌜ passed + r < 2 ^ 64 ⌝ }
     ensures held { λ _. ⌜ now (held .exit) ≡ heldBody passed (now (held .entry)) (now (portion .entry)) ⌝ }
 {
-    if passed < 6 {
+    if passed < record::HEADER {
         return 0;
     }
-    let size = 6 + record::body_length(held) as usize;
+    let size = record::HEADER + record::body_length(held) as usize;
     if passed >= size {
         return 0;
     }
@@ -102,7 +104,7 @@ fn take_body(passed: usize, held: &mut [u8; 49207], portion: &[u8]) -> usize
 }
 
 // Takes bytes of a portion up to the end of the record in hand, and answers how many.
-fn feed(reader: Reader, held: &mut [u8; 49207], portion: &[u8]) -> usize
+fn feed(reader: Reader, held: &mut [u8; record::LONGEST], portion: &[u8]) -> usize
     ensures taken { λ r. ⌜ r ≡ taken reader (now (held .entry)) (now (portion .entry)) ⌝ }
     ensures fits { λ r. ⌜ reader .passed + r < 2 ^ 64 ⌝ }
     ensures held { λ _. ⌜ now (held .exit) ≡ heldAfter reader (now (held .entry)) (now (portion .entry)) ⌝ }
@@ -114,15 +116,15 @@ fn feed(reader: Reader, held: &mut [u8; 49207], portion: &[u8]) -> usize
 // One turn. The line of a record that is then all there is put into `out` from `at` on.
 pub fn turn(
     reader: Reader,
-    held: &mut [u8; 49207],
+    held: &mut [u8; record::LONGEST],
     floats: &mut [f64],
     portion: &[u8],
     out: &mut [u8],
     at: usize,
-) -> Turned
+) -> Took
     requires { ⌜ reader .lines < 2 ^ 63 ⌝ }
-    requires { ⌜ 6144 ≤ length (now floats) ⌝ }
-    requires { ⌜ at + 124 ≤ length (now out) ⌝ }
+    requires { ⌜ mostFloats ≤ length (now floats) ⌝ }
+    requires { ⌜ at + longestLine ≤ length (now out) ⌝ }
     ensures reader { λ t. ⌜ t .reader ≡ readerAfter reader (now (held .entry)) (now (portion .entry)) ⌝ }
     ensures taken { λ t. ⌜ t .taken ≡ taken reader (now (held .entry)) (now (portion .entry)) ⌝ }
     ensures end { λ t. ⌜ t .at ≡ at + length (text reader (now (held .entry)) (now (portion .entry))) ⌝ }
@@ -135,7 +137,7 @@ pub fn turn(
         passed: reader.passed + n,
     };
     if is_unfinished(on, held) {
-        return Turned {
+        return Took {
             reader: on,
             taken: n,
             at: at,
@@ -143,12 +145,12 @@ pub fn turn(
     }
     let number = reader.lines + 1;
     let got = record::outcome_of(held, floats);
-    let end = lines::put_line(out, at, number, got);
+    let end = text::put_line(out, at, number, got);
     let next = Reader {
         lines: number,
         passed: 0,
     };
-    Turned {
+    Took {
         reader: next,
         taken: n,
         at: end,
@@ -158,14 +160,14 @@ pub fn turn(
 // The end is told: the line of a record that is cut, and the closing count.
 pub fn finish(reader: Reader, out: &mut [u8], at: usize) -> usize
     requires { ⌜ reader .lines ≤ 2 ^ 63 ⌝ }
-    requires { ⌜ at + 149 ≤ length (now out) ⌝ }
+    requires { ⌜ at + longestLine + longestEnd ≤ length (now out) ⌝ }
     ensures end { λ r. ⌜ r ≡ at + length (lastText reader) ⌝ }
     ensures out { λ _. ⌜ now (out .exit) ≡ written (now (out .entry)) at (lastText reader) ⌝ }
 {
     if reader.passed == 0 {
-        return lines::put_end(out, at, reader.lines);
+        return text::put_end(out, at, reader.lines);
     }
     let number = reader.lines + 1;
-    let end = lines::put_line(out, at, number, Outcome::Refused(8));
-    lines::put_end(out, end, number)
+    let end = text::put_line(out, at, number, Outcome::Refused(8));
+    text::put_end(out, end, number)
 }

@@ -1,11 +1,12 @@
 -- What a refusal by a record's header tells of the body's length, and that no normalise byte makes a refused record one to solve. Assumes nothing.
 use mathlib.Core.Path.{_≡_, refl}
 use mathlib.Core.Bool.{Bool, true, false, not, _||_, true≢false}
-use Prim.Native.Nat.{ℕ, _-_, _/_, _%_, _≤_}
+use Prim.Native.Nat.{ℕ, _+_, _-_, _/_, _%_, _≤_}
 use native.Mathlib.Omega.{arith}
 use lib.Dec.{eqb, ltb}
 use borrow.Author.Tests.{ltb-false, eqb-true, not-false}
 use Rattle.float.specs.Operators.{if_then_else_}
+use Rattle.record.specs.Sizes.{headerBytes, fieldBytes, rowBytes, recordRows, longestRecord}
 use Rattle.record.specs.Record.{refusal}
 
 -- ---- a refusal by its three tests
@@ -52,23 +53,23 @@ module _ (kind length : ℕ) where
   other-kind = not (eqb kind 1)
 
   abbrev other-length : Bool
-  other-length = ltb length 49 || not (eqb ((length - 49) % 24) 0)
+  other-length = ltb length fieldBytes || not (eqb ((length - fieldBytes) % rowBytes) 0)
 
   abbrev many : Bool
-  many = ltb 2048 ((length - 49) / 24)
+  many = ltb recordRows ((length - fieldBytes) / rowBytes)
 
   module _ (byte : ℕ) where
-    pub solved-length : refusal kind length byte ≡ 0 → (49 ≤ length) × ((length - 49) % 24 ≡ 0) × (length ≤ 49201)
-    unfolding refusal
+    pub solved-length : refusal kind length byte ≡ 0 → (fieldBytes ≤ length) × ((length - fieldBytes) % rowBytes ≡ 0) × (headerBytes + length ≤ longestRecord)
+    unfolding refusal longestRecord
     solved-length e =
         let passed = was-0 other-kind (other-length || ltb 1 byte) many e in
         let rows = neither _ _ (neither other-length _ (passed .0) .0) in
         let enough = ltb-false _ _ (rows .0) in
         let even = eqb-true _ _ (not-false _ (rows .1)) in
-        let few = ltb-false 2048 ((length - 49) / 24) (passed .1) in
+        let few = ltb-false recordRows ((length - fieldBytes) / rowBytes) (passed .1) in
         (enough, even, omega arith)
 
-    pub many-length : refusal kind length byte ≡ 2 → 49 ≤ length
+    pub many-length : refusal kind length byte ≡ 2 → fieldBytes ≤ length
     unfolding refusal
     many-length e = ltb-false _ _ (neither _ _ (neither other-length _ (was-2 other-kind (other-length || ltb 1 byte) many e) .0) .0)
 

@@ -1,4 +1,4 @@
--- A record of document 01: a header of 6 bytes, the body's length and the kind, and a body; and what comes of it. Assumes nothing.
+-- A record of RULES 12: a header, the body's length and the kind, and a body; and what comes of it. Assumes nothing.
 use Prim.Native.Nat.{ℕ, _+_, _-_, _/_, _%_}
 use mathlib.Core.Bool.{not, _||_}
 use mathlib.Core.List.{List}
@@ -12,6 +12,7 @@ use Rattle.solve.specs.declared.Task.{Task}
 use Rattle.solve.specs.declared.Outcome.{Outcome}
 use Rattle.solve.specs.declared.Outcome.the-variants.{Refused}
 use Rattle.solve.specs.Solve.{solve}
+use Rattle.record.specs.Sizes.{headerBytes, fieldBytes, rowBytes, recordRows, rowsAt}
 use Rattle.record.specs.Bytes.{field, float, floats}
 
 -- ---- the header
@@ -24,9 +25,9 @@ kind bytes = field 2 4 bytes
 
 -- how many bytes the record has
 unfoldable pub size : List ℕ → ℕ
-size bytes = 6 + bodyLength bytes
+size bytes = headerBytes + bodyLength bytes
 
--- ---- the body of a record of kind 1, which begins at byte 6: fields of 49 bytes, then rows of 24
+-- ---- the body of a record of kind 1: fields, then rows
 
 unfoldable pub normalizeByte : List ℕ → ℕ
 normalizeByte bytes = field 1 54 bytes
@@ -46,7 +47,7 @@ unfoldable pub allowance : List ℕ → ℕ
 allowance bytes = field 8 46 bytes
 
 unfoldable pub rowFloats : List ℕ → List Float
-rowFloats bytes = floats ((bodyLength bytes - 49) / 8) (drop 55 bytes)
+rowFloats bytes = floats ((bodyLength bytes - fieldBytes) / 8) (drop rowsAt bytes)
 
 -- ---- what comes of a record that is all there
 
@@ -54,8 +55,8 @@ rowFloats bytes = floats ((bodyLength bytes - 49) / 8) (drop 55 bytes)
 unfoldable pub refusal : ℕ → ℕ → ℕ → ℕ
 refusal kind length byte =
     if not (eqb kind 1) then 9
-    else if ltb length 49 || not (eqb ((length - 49) % 24) 0) || ltb 1 byte then 10
-    else if ltb 2048 ((length - 49) / 24) then 2
+    else if ltb length fieldBytes || not (eqb ((length - fieldBytes) % rowBytes) 0) || ltb 1 byte then 10
+    else if ltb recordRows ((length - fieldBytes) / rowBytes) then 2
     else 0
 
 unfoldable pub outcome : List ℕ → Outcome

@@ -15,8 +15,8 @@ fn read_some(input: &mut [u8], most: u64) -> usize
 }
 
 fn main() {
-    let mut held = [0u8; 49207];
-    let mut floats = [0.0; 6144];
+    let mut held = [0u8; record::LONGEST];
+    let mut floats = [0.0; record::FLOATS];
     let mut input = [0u8; 131072];
     let mut out = [0u8; 65536];
     let mut reader = reader::start();

@@ -1,7 +1,7 @@
-// Document 01's own sample, from standard input, fed to the reader a byte at a time.
+// The sample of RULES 12, from standard input, fed to the reader a byte at a time.
 fn main() {
-    let mut held = [0u8; 49207];
-    let mut floats = [0.0; 6144];
+    let mut held = [0u8; record::LONGEST];
+    let mut floats = [0.0; record::FLOATS];
     let mut input = [0u8; 4096];
     let mut out = [0u8; 256];
     let n = io::read_full(libc::STDIN_FILENO, &mut input);

@@ -4,7 +4,7 @@ ghost use mathlib.Core.Path.{_≡_};
 ghost use Prim.Native.Nat.{_≤_, _<_};
 ghost use lib.ListN.{length, take};
 
-pub enum Bits {
+enum Bits {
     Of(u64),
     Nothing,
 }
@@ -37,7 +37,7 @@ fn digit(byte: u8) -> u64 {
 }
 
 // The number of the 16 hex digits at `at`.
-pub fn bits_at(text: &[u8], at: usize) -> Bits {
+fn bits_at(text: &[u8], at: usize) -> Bits {
     let mut value = 0u64;
     let mut k = at;
     let mut i = 0usize;

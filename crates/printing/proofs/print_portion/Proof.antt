@@ -7,6 +7,7 @@ use borrow.Author.Needs.{needs}
 use lib.ListN.{length}
 use lib.Seq.{length-take-le}
 use denote.Ref.{now}
+use Rattle.text.specs.Sizes.{longestLine}
 use Rattle.reader.specs.Reader.{unfinished}
 use Rattle.reader.proofs.Progress.{still-unfinished}
 use Rattle.reader.proofs.Texts.{text-length}
@@ -54,6 +55,7 @@ part-turn-end : tie.Need-part-turn-end Inv-loop μ-loop
 part-turn-end c = search needs
 
 turn-requires : tie.Need-turn-requires Inv-loop μ-loop
+unfolding longestLine
 turn-requires c κs = (omega arith, (omega arith, omega arith))
 
 add-from : tie.Need-add-from Inv-loop μ-loop
@@ -71,6 +73,7 @@ loop-less c =
     rw (made .turn .ensures .1 .0) (nearer (l .now) (l .held) portion (l .from) (turn .loop-test .taken) (l .inv .4))
 
 loop-again : tie.Need-loop-again Inv-loop μ-loop
+unfolding longestLine
 loop-again c =
     let made = c .before .before .before .before .before .before in
     let turn = made .before .before .before .before .before .before .before .before in

@@ -4,7 +4,8 @@ use native.Mathlib.Omega.{arith}
 use lib.ListN.{length-take}
 use lib.Seq.{length-take-le}
 use denote.Ref.{now}
-use Rattle.lines.specs.Text.{written}
+use Rattle.text.specs.Text.{written}
+use Rattle.record.specs.Sizes.{longestRecord}
 use Rattle.reader.proofs.copy.Statement.{statement}
 use Rattle.reader.proofs.copy.Tie as tie
 
@@ -12,6 +13,7 @@ slice-aggregate-put : tie.Need-slice-aggregate-put
 slice-aggregate-put c = sym (length-take-le _ _ (omega arith))
 
 put-requires : tie.Need-put-requires
+unfolding longestRecord
 put-requires c κs = simp length-take (omega arith)
 
 returns : tie.Need-returns

@@ -7,8 +7,8 @@ use lib.ListN.{length}
 use denote.Ref.{now}
 use Rattle.float.specs.Operators.{if_then_else_}
 use Rattle.solve.specs.declared.Outcome.the-variants.{Refused}
-use Rattle.lines.specs.Lines.{outcomeLine, endLine}
-use Rattle.lines.proofs.Written.{then-put}
+use Rattle.text.specs.Lines.{outcomeLine, endLine}
+use Rattle.text.proofs.Written.{then-put}
 use Rattle.reader.specs.Reader.{lastText}
 use Rattle.reader.proofs.Texts.{line-length, end-length}
 use Rattle.reader.proofs.finish.Statement.{statement}
@@ -46,8 +46,11 @@ returns-2 c =
     let cut = line .before .before .before in
     let a = cut .before .before .before .args in
     let number = a .reader .lines + 1 in
-    let fits : a .at + length (outcomeLine number (Refused 8)) + length (endLine number) ≤ length (now (a .out)) = omega (arith, line-length number (Refused 8), end-length number) in
-    rw (ne-eqb _ _ (cut .if1 .left)) (then-put (now (a .out)) (a .at) (outcomeLine number (Refused 8)) (endLine number) fits (line .put-line .ensures) (end .put-end2 .ensures))
+    let refused = outcomeLine number (Refused 8) in
+    let fits : a .at + length refused + length (endLine number) ≤ length (now (a .out)) =
+    omega (arith, line-length number (Refused 8), end-length number) in
+    let put = then-put (now (a .out)) (a .at) refused (endLine number) fits (line .put-line .ensures) (end .put-end2 .ensures) in
+    rw (ne-eqb _ _ (cut .if1 .left)) put
 
 pub finish-spec : {M : Type 1} → statement M
 finish-spec =

@@ -2,6 +2,7 @@
 use borrow.Author.Needs.{needs}
 use borrow.Author.Tests.{eq-eqb, ne-eqb}
 use Rattle.float.specs.Operators.{if_then_else_}
+use Rattle.record.specs.Sizes.{headerBytes, rowsAt}
 use Rattle.record.specs.Record.{size}
 use Rattle.reader.specs.Reader.{kept}
 use Rattle.reader.proofs.kept_of.Statement.{statement}
@@ -20,25 +21,37 @@ add-result : tie.Need-add-result
 add-result c = search needs
 
 returns : tie.Need-returns
-unfolding kept size if_then_else_
+unfolding kept size if_then_else_ headerBytes
 returns c =
     let number = c .before in
     let kind = number .before in
     rw (← kind .kind-of .ensures, ← kind .before .body-length .ensures .0, ← number .refusal .ensures, eq-eqb _ _ (c .if1 .taken))
 
 returns-2 : tie.Need-returns-2
-unfolding kept if_then_else_
+unfolding kept if_then_else_ rowsAt
 returns-2 c =
     let number = c .before .before in
     let kind = number .before in
-    rw (← kind .kind-of .ensures, ← kind .before .body-length .ensures .0, ← number .refusal .ensures, ne-eqb _ _ (c .before .if1 .left), eq-eqb _ _ (c .if2 .taken))
+    rw (
+      ← kind .kind-of .ensures,
+      ← kind .before .body-length .ensures .0,
+      ← number .refusal .ensures,
+      ne-eqb _ _ (c .before .if1 .left),
+      eq-eqb _ _ (c .if2 .taken),
+    )
 
 returns-3 : tie.Need-returns-3
-unfolding kept if_then_else_
+unfolding kept if_then_else_ headerBytes
 returns-3 c =
     let number = c .before .before in
     let kind = number .before in
-    rw (← kind .kind-of .ensures, ← kind .before .body-length .ensures .0, ← number .refusal .ensures, ne-eqb _ _ (c .before .if1 .left), ne-eqb _ _ (c .if2 .left))
+    rw (
+      ← kind .kind-of .ensures,
+      ← kind .before .body-length .ensures .0,
+      ← number .refusal .ensures,
+      ne-eqb _ _ (c .before .if1 .left),
+      ne-eqb _ _ (c .if2 .left),
+    )
 
 pub kept-of-spec : {M : Type 1} → statement M
 kept-of-spec =

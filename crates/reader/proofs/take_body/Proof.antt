@@ -3,6 +3,7 @@ use mathlib.Core.Path.{_≡_, sym, _∙_}
 use native.Mathlib.Omega.{arith}
 use borrow.Author.Needs.{needs}
 use denote.Ref.{now}
+use Rattle.record.specs.Sizes.{headerBytes}
 use Rattle.record.specs.Record.{size}
 use Rattle.reader.specs.Reader.{toBody, heldBody}
 use Rattle.reader.proofs.Kept.{keeps-room}
@@ -12,6 +13,7 @@ use Rattle.reader.proofs.take_body.Statement.{statement}
 use Rattle.reader.proofs.take_body.Tie as tie
 
 returns : tie.Need-returns
+unfolding headerBytes
 returns c =
     let a = c .before .before .args in
     let none = body-later (a .passed) (now (a .held)) (now (a .portion)) (c .if1 .taken) in
@@ -24,7 +26,7 @@ add-size : tie.Need-add-size
 add-size c = search needs
 
 returns-2 : tie.Need-returns-2
-unfolding size
+unfolding size headerBytes
 returns-2 c =
     let header = c .before .before .before in
     let a = header .before .before .args in
@@ -53,7 +55,7 @@ copy-requires c κs =
     (omega arith, omega (arith, keeps-room (now (header .before .before .args .held))))
 
 returns-3 : tie.Need-returns-3
-unfolding size heldBody
+unfolding size heldBody headerBytes
 returns-3 c =
     let keep = c .before .before .before .before in
     let n = keep .before .before in
@@ -64,7 +66,7 @@ returns-3 c =
     (all, (omega arith, c .copy .ensures ∙ rw (c .before .least2 .ensures, all, keep .kept-of .ensures)))
 
 returns-4 : tie.Need-returns-4
-unfolding size
+unfolding size headerBytes
 returns-4 c =
     let n = c .before .before .before in
     let header = n .before .before .before .before in

@@ -19,7 +19,9 @@ is-unfinished-requires : tie.Need-is-unfinished-requires
 is-unfinished-requires c κs = search needs
 
 -- the test whether the record is then all there is the definition's
-told : (c : tie.After-is-unfinished) → let a = c .before .before .before .before .before .before .before .before .args in lacking-then (a .reader) (now (a .held)) (now (a .portion)) ≡ c .is-unfinished .result
+told : (c : tie.After-is-unfinished)
+    → let a = c .before .before .before .before .before .before .before .before .args in
+    lacking-then (a .reader) (now (a .held)) (now (a .portion)) ≡ c .is-unfinished .result
 unfolding passedOn
 told c = let fed = c .before .before .before .feed .ensures in rw (← fed .0, ← fed .1 .1) (sym (c .is-unfinished .ensures))
 

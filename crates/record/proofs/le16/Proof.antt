@@ -3,20 +3,24 @@ use Prim.Native.Nat.{_+_}
 use native.Mathlib.Omega.{arith}
 use borrow.Author.Needs.{needs}
 use denote.Ref.{now}
+use Rattle.record.specs.Sizes.{longestRecord}
 use Rattle.record.proofs.Bytes.{field-split, field-one}
 use Rattle.record.proofs.le16.Statement.{statement}
 use Rattle.record.proofs.le16.Tie as tie
 
 element-copy-out-wide : tie.Need-element-copy-out-wide
+unfolding longestRecord
 element-copy-out-wide c = search needs
 
 wide-requires : tie.Need-wide-requires
 wide-requires c κs = search needs
 
 add-wide : tie.Need-add-wide
+unfolding longestRecord
 add-wide c = search needs
 
 element-copy-out-wide-2 : tie.Need-element-copy-out-wide-2
+unfolding longestRecord
 element-copy-out-wide-2 c = search needs
 
 wide-requires-2 : tie.Need-wide-requires-2

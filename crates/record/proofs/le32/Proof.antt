@@ -2,6 +2,7 @@
 use native.Mathlib.Omega.{arith}
 use borrow.Author.Needs.{needs}
 use denote.Ref.{now}
+use Rattle.record.specs.Sizes.{longestRecord}
 use Rattle.record.proofs.Bytes.{field-split}
 use Rattle.record.proofs.le32.Statement.{statement}
 use Rattle.record.proofs.le32.Tie as tie
@@ -10,6 +11,7 @@ le16-requires : tie.Need-le16-requires
 le16-requires c κs = search needs
 
 add-le16 : tie.Need-add-le16
+unfolding longestRecord
 add-le16 c = search needs
 
 le16-requires-2 : tie.Need-le16-requires-2

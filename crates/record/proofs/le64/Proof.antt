@@ -2,6 +2,7 @@
 use native.Mathlib.Omega.{arith}
 use borrow.Author.Needs.{needs}
 use denote.Ref.{now}
+use Rattle.record.specs.Sizes.{longestRecord}
 use Rattle.record.proofs.Bytes.{field-split}
 use Rattle.record.proofs.le64.Statement.{statement}
 use Rattle.record.proofs.le64.Tie as tie
@@ -10,6 +11,7 @@ le32-requires : tie.Need-le32-requires
 le32-requires c κs = search needs
 
 add-le32 : tie.Need-add-le32
+unfolding longestRecord
 add-le32 c = search needs
 
 le32-requires-2 : tie.Need-le32-requires-2

@@ -5,6 +5,7 @@ use borrow.Author.Needs.{needs}
 use borrow.Author.Tests.{eq-eqb, ne-eqb}
 use lib.Seq.{length-take-le}
 use Rattle.float.specs.Operators.{if_then_else_}
+use Rattle.record.specs.Sizes.{fieldBytes, longestRecord, mostFloats}
 use Rattle.record.specs.Record.{allowance, rowFloats, outcome}
 use Rattle.record.proofs.Refusals.{solved-length}
 use Rattle.record.proofs.outcome_of.Statement.{statement}
@@ -21,21 +22,25 @@ body-length-requires : tie.Need-body-length-requires
 body-length-requires c κs = search needs
 
 sub-n : tie.Need-sub-n
+unfolding fieldBytes
 sub-n c =
     let tested = c .before in
     let none = solved-length _ _ _ (sym (tested .before .refusal-of .ensures) ∙ tested .if1 .left) in omega arith
 
 read-floats-requires : tie.Need-read-floats-requires
+unfolding longestRecord mostFloats
 read-floats-requires c κs =
     let tested = c .before .before in
     let none = solved-length _ _ _ (sym (tested .before .refusal-of .ensures) ∙ tested .if1 .left) in (omega arith, omega arith)
 
 slice-relend-prefix-solve : tie.Need-slice-relend-prefix-solve
+unfolding longestRecord mostFloats
 slice-relend-prefix-solve c =
     let tested = c .before .before .before .before .before in
     let none = solved-length _ _ _ (sym (tested .before .refusal-of .ensures) ∙ tested .if1 .left) in omega arith
 
 slice-aggregate-solve : tie.Need-slice-aggregate-solve
+unfolding longestRecord mostFloats
 slice-aggregate-solve c =
     let tested = c .before .before .before .before .before .before in
     let none = solved-length _ _ _ (sym (tested .before .refusal-of .ensures) ∙ tested .if1 .left) in sym (length-take-le _ _ (omega arith))
@@ -44,6 +49,7 @@ task-of-requires : tie.Need-task-of-requires
 task-of-requires c κs = search needs
 
 le64-requires : tie.Need-le64-requires
+unfolding longestRecord
 le64-requires c κs = search needs
 
 solve-requires : tie.Need-solve-requires
@@ -53,7 +59,7 @@ same-length : tie.Need-same-length
 same-length c = search needs
 
 returns-2 : tie.Need-returns-2
-unfolding outcome allowance rowFloats if_then_else_
+unfolding outcome allowance rowFloats if_then_else_ fieldBytes
 returns-2 c =
     let allowed = c .before .before .before in
     let read = allowed .before .before .before .before .before in

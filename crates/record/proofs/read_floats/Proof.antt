@@ -5,13 +5,14 @@ use native.Mathlib.Omega.{arith}
 use borrow.Author.Needs.{needs}
 use lib.ListN.{length, take, drop, length-set}
 use denote.Ref.{now}
+use Rattle.record.specs.Sizes.{rowsAt, longestRecord, mostFloats}
 use Rattle.record.specs.Bytes.{floats}
 use Rattle.record.proofs.Bytes.{floats-stored}
 use Rattle.record.proofs.read_floats.Statement.{statement}
 use Rattle.record.proofs.read_floats.Tie as tie
 
 abbrev Inv-loop : tie.InvT-loop
-Inv-loop bytes out₀ n i₀ out i = (i ≤ n) × (length out ≡ length out₀) × (take i out ≡ floats i (drop 55 bytes))
+Inv-loop bytes out₀ n i₀ out i = (i ≤ n) × (length out ≡ length out₀) × (take i out ≡ floats i (drop rowsAt bytes))
 
 abbrev μ-loop : tie.MeasureT-loop
 μ-loop bytes out₀ n i₀ out i = n - i
@@ -27,6 +28,7 @@ add-float-at : tie.Need-add-float-at Inv-loop μ-loop
 add-float-at c = search needs
 
 float-at-requires : tie.Need-float-at-requires Inv-loop μ-loop
+unfolding longestRecord mostFloats
 float-at-requires c κs = search needs
 
 mul-out : tie.Need-mul-out Inv-loop μ-loop
@@ -42,11 +44,13 @@ loop-less : tie.Need-loop-less Inv-loop μ-loop
 loop-less c = search needs
 
 loop-again : tie.Need-loop-again Inv-loop μ-loop
+unfolding rowsAt
 loop-again c =
     let l = c .before .before .loop in
     let a = c .before .before .before .before .args in
     let inside : l .i < length (l .out) = omega arith in
-    (omega arith, length-set (l .out) (l .i) _ ∙ l .inv .1, rw (c .float-at .ensures) (floats-stored 55 (l .i) (now (a .bytes)) (l .out) inside (l .inv .2)))
+    let stored = floats-stored rowsAt (l .i) (now (a .bytes)) (l .out) inside (l .inv .2) in
+    (omega arith, length-set (l .out) (l .i) _ ∙ l .inv .1, rw (c .float-at .ensures) stored)
 
 same-length : tie.Need-same-length Inv-loop μ-loop
 same-length c = search needs

@@ -1,5 +1,6 @@
 -- `record::task_of` meets its contract. Assumes nothing.
 use borrow.Author.Needs.{needs}
+use Rattle.record.specs.Sizes.{longestRecord}
 use Rattle.record.specs.Record.{task}
 use Rattle.record.proofs.task_of.Statement.{statement}
 use Rattle.record.proofs.task_of.Tie as tie
@@ -11,18 +12,23 @@ mode-of-requires : tie.Need-mode-of-requires
 mode-of-requires c κs = search needs
 
 float-at-requires : tie.Need-float-at-requires
+unfolding longestRecord
 float-at-requires c κs = search needs
 
 float-at-requires-2 : tie.Need-float-at-requires-2
+unfolding longestRecord
 float-at-requires-2 c κs = search needs
 
 float-at-requires-3 : tie.Need-float-at-requires-3
+unfolding longestRecord
 float-at-requires-3 c κs = search needs
 
 float-at-requires-4 : tie.Need-float-at-requires-4
+unfolding longestRecord
 float-at-requires-4 c κs = search needs
 
 le64-requires : tie.Need-le64-requires
+unfolding longestRecord
 le64-requires c κs = search needs
 
 returns : tie.Need-returns

@@ -6,6 +6,8 @@ use native.Mathlib.Omega.{arith}
 use borrow.Author.Needs.{needs}
 use lib.ListN.{length}
 use lib.Seq.{length-take-le}
+use Rattle.text.specs.Sizes.{longestLine, longestEnd}
+use Rattle.record.specs.Sizes.{mostFloats}
 use Rattle.reader.specs.Reader.{unfinished}
 use Rattle.reader.proofs.Progress.{unfinished-start}
 use Rattle.rowrun.proofs.main.Statement.{statement}
@@ -20,7 +22,7 @@ module _ (lines left : ℕ) {got bytes : ℕ} (all : got ≡ bytes) (within : go
 
 abbrev Inv-loop : tie.InvT-loop
 Inv-loop held₀ floats₀ input₀ out₀ reader₀ left₀ held floats input out reader left =
-    (length floats ≡ 6144)
+    (length floats ≡ mostFloats)
     × (length input ≡ 131072)
     × (length out ≡ 65536)
     × (unfinished reader held ≡ true)
@@ -33,6 +35,7 @@ start-requires : tie.Need-start-requires Inv-loop μ-loop
 start-requires c κs = search needs
 
 loop-holds : tie.Need-loop-holds Inv-loop μ-loop
+unfolding mostFloats
 loop-holds c = (search needs, search needs, search needs, unfinished-start _ _ (c .start .ensures .1), omega arith)
 
 slice-aggregate-read-some : tie.Need-slice-aggregate-read-some Inv-loop μ-loop
@@ -42,6 +45,7 @@ read-some-requires : tie.Need-read-some-requires Inv-loop μ-loop
 read-some-requires c κs = search needs
 
 slice-aggregate-print-portion : tie.Need-slice-aggregate-print-portion Inv-loop μ-loop
+unfolding mostFloats
 slice-aggregate-print-portion c = sym (c .before .before .before .before .before .before .before .loop .inv .0)
 
 array-share-prefix-input : tie.Need-array-share-prefix-input Inv-loop μ-loop
@@ -54,6 +58,7 @@ slice-aggregate-print-portion-3 : tie.Need-slice-aggregate-print-portion-3 Inv-l
 slice-aggregate-print-portion-3 c = sym (c .before .before .before .before .before .before .before .before .before .loop .inv .2)
 
 print-portion-requires : tie.Need-print-portion-requires Inv-loop μ-loop
+unfolding longestLine
 print-portion-requires c κs =
     let read = c .before .before .before .before .before .before in
     let l = read .before .before .before .loop in
@@ -83,6 +88,7 @@ slice-aggregate-print-end : tie.Need-slice-aggregate-print-end Inv-loop μ-loop
 slice-aggregate-print-end c = sym (c .before .before .loop .inv .2)
 
 print-end-requires : tie.Need-print-end-requires Inv-loop μ-loop
+unfolding longestLine longestEnd
 print-end-requires c κs = (omega arith, omega arith)
 
 returns-2 : tie.Need-returns-2 Inv-loop μ-loop

@@ -5,6 +5,8 @@ use Prim.Native.Nat.{_-_, _≤_}
 use native.Mathlib.Omega.{arith}
 use borrow.Author.Needs.{needs}
 use lib.ListN.{length, length-take}
+use Rattle.text.specs.Sizes.{longestLine, longestEnd}
+use Rattle.record.specs.Sizes.{mostFloats}
 use Rattle.reader.specs.Reader.{unfinished}
 use Rattle.reader.proofs.Progress.{unfinished-start}
 use Rattle.sample.proofs.main.Statement.{statement}
@@ -12,7 +14,7 @@ use Rattle.sample.proofs.main.Tie as tie
 
 abbrev Inv-loop : tie.InvT-loop
 Inv-loop held₀ floats₀ input out₀ n reader₀ i₀ held floats out reader i =
-    (i ≤ n) × (length floats ≡ 6144) × (length out ≡ 256) × (unfinished reader held ≡ true) × (reader .lines ≤ i)
+    (i ≤ n) × (length floats ≡ mostFloats) × (length out ≡ 256) × (unfinished reader held ≡ true) × (reader .lines ≤ i)
 
 abbrev μ-loop : tie.MeasureT-loop
 μ-loop held₀ floats₀ input out₀ n reader₀ i₀ held floats out reader i = n - i
@@ -27,12 +29,14 @@ start-requires : tie.Need-start-requires Inv-loop μ-loop
 start-requires c κs = search needs
 
 loop-holds : tie.Need-loop-holds Inv-loop μ-loop
+unfolding mostFloats
 loop-holds c = (omega arith, search needs, search needs, unfinished-start _ _ (c .start .ensures .1), omega arith)
 
 add-next : tie.Need-add-next Inv-loop μ-loop
 add-next c = search needs
 
 slice-aggregate-print-portion : tie.Need-slice-aggregate-print-portion Inv-loop μ-loop
+unfolding mostFloats
 slice-aggregate-print-portion c = sym (c .before .before .before .loop .inv .1)
 
 sub-print-portion : tie.Need-sub-print-portion Inv-loop μ-loop
@@ -48,6 +52,7 @@ slice-aggregate-print-portion-2 : tie.Need-slice-aggregate-print-portion-2 Inv-l
 slice-aggregate-print-portion-2 c = sym (c .before .before .before .before .before .before .loop .inv .2)
 
 print-portion-requires : tie.Need-print-portion-requires Inv-loop μ-loop
+unfolding longestLine
 print-portion-requires c κs =
     (c .before .before .before .before .before .before .loop .inv .3, (simp length-take (omega arith), (omega arith, omega arith)))
 
@@ -63,6 +68,7 @@ slice-aggregate-print-end : tie.Need-slice-aggregate-print-end Inv-loop μ-loop
 slice-aggregate-print-end c = sym (c .before .before .loop .inv .2)
 
 print-end-requires : tie.Need-print-end-requires Inv-loop μ-loop
+unfolding longestLine longestEnd
 print-end-requires c κs = (omega arith, omega arith)
 
 returns : tie.Need-returns Inv-loop μ-loop
