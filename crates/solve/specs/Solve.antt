@@ -89,6 +89,10 @@ allowed T allowance rows =
 
 -- ---- the entries, over rows that lie flat: refusals 1 and 2 leave everything as it was
 
+-- which refusal a solve's input gets before a row is read, and 0 where it gets none
+unfoldable pub refusalOf : Task → List Float → ℕ
+refusalOf T flat = refusal 3 (length flat)
+
 unfoldable pub taken : (List Row → Ended (List Row)) → List Float → Ended (List Float)
 taken solving flat =
     let number = refusal 3 (length flat) in

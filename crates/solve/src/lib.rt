@@ -16,7 +16,7 @@ ghost use Rattle.rows.specs.Rows.{rowsOf, flatOf};
 ghost use Rattle.step.specs.Step.{stepped};
 ghost use Rattle.solve.specs.Once.{prepared, preparing, leaves, widened, begun, passes, saturated, rounded, lone};
 ghost use Rattle.solve.specs.declared.Outcome.the-variants.{Answered};
-ghost use Rattle.solve.specs.Solve.{answer, activeRows, allowed, solve, lp2dIncreMaxY, silent};
+ghost use Rattle.solve.specs.Solve.{answer, activeRows, allowed, refusalOf, solve, lp2dIncreMaxY, silent};
 
 // Where a solve starts, and how many leading rows its forward pass skips.
 pub struct WarmStart {
@@ -294,13 +294,20 @@ fn many(rows: &mut [f64], n: usize, task: Task, allowance: u64) -> Outcome
 
 // ---- the entries
 
+// Public: which refusal the input of a solve gets before a row is read; 0 where it gets none.
+pub fn refusal_of(rows: &[f64], task: Task) -> u64
+    ensures { λ k. ⌜ k ≡ refusalOf task (now (rows .entry)) ⌝ }
+{
+    rows::refusal(3, rows.len())
+}
+
 // Public: the solve within an allowance, with the active rows and the count. Refusals 1 and 2 leave the lent rows as they
 // were; refusal 3 leaves them as after the last normalisation whose readings all fitted.
 pub fn solve(rows: &mut [f64], task: Task, allowance: u64) -> Outcome
     ensures answer { λ r. ⌜ r ≡ solve task allowance (now (rows .entry)) .outcome ⌝ }
     ensures lent { λ _. ⌜ now (rows .exit) ≡ solve task allowance (now (rows .entry)) .rows ⌝ }
 {
-    let number = rows::refusal(3, rows.len());
+    let number = refusal_of(rows, task);
     if number != 0 {
         return Outcome::Refused(number);
     }
