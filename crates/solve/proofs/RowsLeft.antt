@@ -13,13 +13,13 @@ use Rattle.readings.specs.Readings.{Counted, pure, read, _>>_}
 use Rattle.readings.proofs.Gives.{either}
 use Rattle.rows.specs.Constants.{lpBound, lpBoxGrowth}
 use Rattle.rows.specs.declared.Row.{Row}
-use Rattle.rows.specs.Rows.{rowsOf, flatOf, refusal, normalized}
-use Rattle.rows.proofs.Refusals as even
+use Rattle.rows.specs.Rows.{rowsOf, flatOf, normalized}
 use Rattle.rows.proofs.Written.{flat-rows}
 use Rattle.solve.specs.declared.Normalize.the-variants.{Off, Source}
 use Rattle.solve.specs.declared.Task.{Task}
 use Rattle.solve.specs.Once.{Once, prepared, many, once}
-use Rattle.solve.specs.Solve.{solves, allSolves, count, rowsWithin, Ended, answered, finished, allowed, taken, solve}
+use Rattle.solve.specs.Solve.{solves, allSolves, count, rowsWithin, Ended, answered, finished, allowed, refusalOf, taken, solve}
+use Rattle.solve.proofs.Refusals.{refusal-0}
 use Rattle.solve.proofs.Allowance.{stops, refuses, takes}
 
 -- ---- stopped
@@ -96,8 +96,8 @@ rows-again (r ∷ rows) = ap (λ l. r ∷ l) (rows-again rows)
 
 pub solve-as-lent : (T : Task) → T .normalize ≡ Off → (A : ℕ) (flat : List Float) → solve T A flat .rows ≡ flat
 unfolding solve
-solve-as-lent T off A flat = go (ℕ-discrete (refusal 3 (length flat)) 0)
+solve-as-lent T off A flat = go (ℕ-discrete (refusalOf T flat) 0)
   where
-    go : Dec (refusal 3 (length flat) ≡ 0) → taken (allowed T A) flat .rows ≡ flat
-    go (yes fits) = rw (takes (allowed T A) flat fits, as-lent T off A (rowsOf flat)) (flat-rows flat (length flat / 3) (omega (arith, even.taken 3 (length flat) fits)))
-    go (no refused) = rw (refuses (allowed T A) flat refused)
+    go : Dec (refusalOf T flat ≡ 0) → taken T (allowed T A) flat .rows ≡ flat
+    go (yes fits) = rw (takes T (allowed T A) flat fits, as-lent T off A (rowsOf flat)) (flat-rows flat (length flat / 3) (omega (arith, refusal-0 T flat .0 fits)))
+    go (no refused) = rw (refuses T (allowed T A) flat refused)

@@ -93,18 +93,18 @@ allowed T allowance rows =
 unfoldable pub refusalOf : Task → List Float → ℕ
 refusalOf T flat = refusal 3 (length flat)
 
-unfoldable pub taken : (List Row → Ended (List Row)) → List Float → Ended (List Float)
-taken solving flat =
-    let number = refusal 3 (length flat) in
+unfoldable pub taken : Task → (List Row → Ended (List Row)) → List Float → Ended (List Float)
+taken T solving flat =
+    let number = refusalOf T flat in
     let e = solving (rowsOf flat) in
     if eqb number 0 then record { outcome = e .outcome; rows = flatOf (e .rows) } else record { outcome = Refused number; rows = flat }
 
 unfoldable pub solve : Task → ℕ → List Float → Ended (List Float)
-solve T allowance flat = taken (allowed T allowance) flat
+solve T allowance flat = taken T (allowed T allowance) flat
 
 -- the source's own entry: no allowance, and a collector that is off
 unfoldable pub lp2dIncreMaxY : Task → List Float → Ended (List Float)
-lp2dIncreMaxY T flat = taken (finished T) flat
+lp2dIncreMaxY T flat = taken T (finished T) flat
 
 unfoldable pub silent : Outcome → Solution
 silent (Answered a act n) = solution-is.Answered a
