@@ -43,12 +43,13 @@ unfoldable pub count : List Once → ℕ
 count [] = 0
 count (o ∷ os) = o .rows .readings + o .run .readings + count os
 
--- the rows after the last normalisation whose readings all fitted in those left
+-- the rows after the last normalisation whose readings all fitted in those left: too few for a solve's rows leave them, and too few for its passes end it
 unfoldable pub rowsWithin : ℕ → List Row → List Once → List Row
 rowsWithin left rows [] = rows
 rowsWithin left rows (o ∷ os) =
-    let rest = rowsWithin (left - o .rows .readings - o .run .readings) (o .rows .value) os in
-    if ltb left (o .rows .readings) then rows else rest
+    let taken = o .rows .readings + o .run .readings in
+    let rest = rowsWithin (left - taken) (o .rows .value) os in
+    if ltb left (o .rows .readings) then rows else if ltb left taken then o .rows .value else rest
 
 -- ---- what comes back
 

@@ -1,17 +1,11 @@
 -- `solve::solve` meets its contract.
 use mathlib.Core.Path.{sym, _∙_}
-use Prim.Native.Nat.{_/_, _≤_}
 use native.Mathlib.Omega.{arith}
 use borrow.Author.Needs.{needs}
-use lib.ListN.{length}
 use denote.Ref.{now}
-use Rattle.rows.specs.Rows.{rowsOf}
-use Rattle.rows.proofs.Lengths.{length-rowsOf}
-use Rattle.rows.proofs.Written.{flat-rows}
 use Rattle.solve.specs.Solve.{allowed, solve}
 use Rattle.solve.proofs.Refusals.{refusal-0}
 use Rattle.solve.proofs.Allowance.{solve-refuses, takes}
-use Rattle.solve.proofs.Cases.{few-left}
 use Rattle.solve.proofs.solve.Statement.{statement}
 use Rattle.solve.proofs.solve.Tie as tie
 
@@ -27,9 +21,9 @@ returns c =
     let refused = solve-refuses (a .task) (now (a .rows)) (a .allowance) (λ e. omega arith) in
     (rw (refused, ← c .before .refusal-of .ensures), rw refused)
 
-few-requires : tie.Need-few-requires
-few-requires c κs =
-    let tested = c .before .before in
+of-rows-requires : tie.Need-of-rows-requires
+of-rows-requires c κs =
+    let tested = c .before in
     let a = tested .before .before .before .before .args in
     omega (arith, refusal-0 (a .task) (now (a .rows)) .0 (sym (tested .before .refusal-of .ensures) ∙ tested .if1 .left))
 
@@ -39,31 +33,11 @@ same-length-2 c = search needs
 returns-2 : tie.Need-returns-2
 unfolding solve
 returns-2 c =
-    let tested = c .before .before .before in
-    let a = tested .before .before .before .before .args in
-    let fits = sym (tested .before .refusal-of .ensures) ∙ tested .if1 .left in
-    let even = refusal-0 (a .task) (now (a .rows)) .0 fits in
-    let few : length (rowsOf (now (a .rows))) ≤ 1 = omega (arith, length-rowsOf (now (a .rows))) in (
-      rw (takes (a .task) (allowed (a .task) (a .allowance)) (now (a .rows)) fits) (c .few .ensures),
-      rw (takes (a .task) (allowed (a .task) (a .allowance)) (now (a .rows)) fits, few-left (a .task) (a .allowance) (rowsOf (now (a .rows))) few) (sym (flat-rows (now (a .rows)) (length (now (a .rows)) / 3) (omega arith))),
-    )
-
-many-requires : tie.Need-many-requires
-many-requires c κs =
-    let tested = c .before .before in
-    let a = tested .before .before .before .before .args in
-    omega (arith, refusal-0 (a .task) (now (a .rows)) .0 (sym (tested .before .refusal-of .ensures) ∙ tested .if1 .left))
-
-same-length-3 : tie.Need-same-length-3
-same-length-3 c = search needs
-
-returns-3 : tie.Need-returns-3
-unfolding solve
-returns-3 c =
-    let tested = c .before .before .before .before .before in
+    let told = c .before .before in
+    let tested = told .before .before in
     let a = tested .before .before .before .before .args in
     let e = takes (a .task) (allowed (a .task) (a .allowance)) (now (a .rows)) (sym (tested .before .refusal-of .ensures) ∙ tested .if1 .left) in
-    (rw e (c .before .before .many .ensures .0), rw e (c .before .before .many .ensures .1))
+    (rw e (told .of-rows .ensures .0), rw e (told .of-rows .ensures .1))
 
 pub solve-spec : {M : Type 1} → statement M
 solve-spec =
@@ -72,9 +46,6 @@ solve-spec =
     refusal-of-requires
     same-length
     returns
-    few-requires
+    of-rows-requires
     same-length-2
-    returns-2
-    many-requires
-    same-length-3
-    returns-3)
+    returns-2)
