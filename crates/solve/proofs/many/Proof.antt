@@ -44,7 +44,7 @@ sub-answered : tie.Need-sub-answered Inv-loop μ-loop
 sub-answered c =
     let round = c .before .before .before .before .before in
     let l = round .before .before .before .loop in
-    turn (omega arith) (l .inv) (round .solve-once .ensures .1) (omega arith) (sym (c .before .got .given .1) ∙ round .solve-once .ensures .0) .0
+    omega (arith, turn (omega arith) (l .inv) (round .solve-once .ensures .1) (omega arith) (sym (c .before .got .given .1) ∙ round .solve-once .ensures .0) .0)
 
 answered-requires : tie.Need-answered-requires Inv-loop μ-loop
 answered-requires c κs = search needs
@@ -66,7 +66,7 @@ sub-answered-2 : tie.Need-sub-answered-2 Inv-loop μ-loop
 sub-answered-2 c =
     let round = c .before .before .before .before .before .before in
     let l = round .before .before .before .loop in
-    turn (omega arith) (l .inv) (round .solve-once .ensures .1) (omega arith) (sym (c .before .before .got2 .given .1) ∙ round .solve-once .ensures .0) .0
+    omega (arith, turn (omega arith) (l .inv) (round .solve-once .ensures .1) (omega arith) (sym (c .before .before .got2 .given .1) ∙ round .solve-once .ensures .0) .0)
 
 answered-requires-2 : tie.Need-answered-requires-2 Inv-loop μ-loop
 answered-requires-2 c κs = search needs

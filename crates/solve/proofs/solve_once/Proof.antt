@@ -1,5 +1,5 @@
 -- `solve::solve_once` meets its contract.
-use mathlib.Core.Path.{sym, _∙_}
+use mathlib.Core.Path.{sym, ap, _∙_}
 use borrow.Author.Needs.{needs}
 use denote.Ref.{now}
 use Rattle.solve.specs.Once.{rounding}
@@ -26,8 +26,9 @@ returns : tie.Need-returns
 unfolding rounding
 returns c =
     let told = c .before .before .before .before in
+    let a = told .before .before .before .args in
     let p = was-unprepared _ (sym (c .enum-told .given .1) ∙ told .prepare .ensures .0) in
-    (rw p, told .prepare .ensures .1)
+    (ap (rounding (a .task) (a .bound)) (sym p), told .prepare .ensures .1)
 
 same-length-2 : tie.Need-same-length-2
 same-length-2 c = search needs
@@ -38,7 +39,7 @@ returns-2 c =
     let told = c .before .before .before .before .before .before .before in
     let a = told .before .before .before .args in
     let p = was-prepared (now (a .rows)) _ (sym (c .before .before .before .ready .given .1) ∙ told .prepare .ensures .0) (told .prepare .ensures .1) in
-    (rw p (c .one-round .ensures), told .prepare .ensures .1)
+    (c .one-round .ensures ∙ ap (rounding (a .task) (a .bound)) (sym p), told .prepare .ensures .1)
 
 pub solve-once-spec : {M : Type 1} → statement M
 solve-once-spec =
