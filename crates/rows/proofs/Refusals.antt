@@ -43,10 +43,22 @@ module _ (width floats : ℕ) where
       go (many h a) = (λ _. (h, a), λ _. refl)
       go (none h l) = (λ e. absurd (omega arith), λ g. absurd (omega (arith, g .1, l)))
 
-  pub taken : refusal width floats ≡ 0 → (floats % width ≡ 0) × (floats / width ≤ mostRows)
-  taken = go why
+  pub refusal-0 : refusal width floats ≡ 0 ↔ (floats % width ≡ 0) × (floats / width ≤ mostRows)
+  refusal-0 = go why
     where
-      go : {k : ℕ} → Why width floats k → k ≡ 0 → (floats % width ≡ 0) × (floats / width ≤ mostRows)
-      go (uneven h) e = absurd (omega arith)
-      go (many h a) e = absurd (omega arith)
-      go (none h l) e = (h, l)
+      go : {k : ℕ} → Why width floats k → k ≡ 0 ↔ (floats % width ≡ 0) × (floats / width ≤ mostRows)
+      go (uneven h) = (λ e. absurd (omega arith), λ g. absurd (h (g .0)))
+      go (many h a) = (λ e. absurd (omega arith), λ g. absurd (omega (arith, g .1, a)))
+      go (none h l) = (λ _. (h, l), λ _. refl)
+
+  pub taken : refusal width floats ≡ 0 → (floats % width ≡ 0) × (floats / width ≤ mostRows)
+  taken = refusal-0 .0
+
+  -- and no other number
+  pub no-other : refusal width floats < 3
+  no-other = go why
+    where
+      go : {k : ℕ} → Why width floats k → k < 3
+      go (uneven h) = omega arith
+      go (many h a) = omega arith
+      go (none h l) = omega arith

@@ -2,7 +2,6 @@
 ghost use mathlib.Core.Path.{_≡_};
 ghost use Prim.Native.Nat.{_+_, _*_, _<_};
 ghost use lib.ListN.{length, set};
-ghost use Rattle.rounding.specs.Root.{root};
 ghost use Rattle.rows.specs.Rows.{rowsOf, flatOf, rowAt, refusal, residual, noBoundary, normalizedBy, normalized};
 ghost use Rattle.rows.specs.Rows.{normalizing, normalizedFlat, singular, crossing};
 

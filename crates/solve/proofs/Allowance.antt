@@ -12,15 +12,15 @@ use lib.ListN.{length}
 use lib.Ieee.{Float}
 use Rattle.float.specs.Operators.{if_then_else_}
 use Rattle.readings.proofs.Gives.{either}
-use Rattle.rows.specs.Constants.{mostRows}
 use Rattle.rows.specs.declared.Row.{Row}
-use Rattle.rows.specs.Rows.{rowsOf, flatOf, refusal}
+use Rattle.rows.specs.Rows.{rowsOf, flatOf}
 use Rattle.line.specs.declared.Active.{Active}
 use Rattle.solve.specs.declared.Task.{Task}
 use Rattle.solve.specs.declared.Answer.{Answer}
 use Rattle.solve.specs.declared.Outcome.the-variants.{Answered, Stopped, Refused}
 use Rattle.solve.specs.Once.{Once}
-use Rattle.solve.specs.Solve.{solves, allSolves, count, rowsWithin, answer, activeRows, Ended, answered, finished, allowed, taken, solve, lp2dIncreMaxY, number}
+use Rattle.solve.specs.Solve.{solves, allSolves, count, rowsWithin, answer, activeRows, Ended, answered, finished, allowed, refusalOf, taken, solve, lp2dIncreMaxY, number}
+use Rattle.solve.proofs.Refusals.{no-other}
 
 -- ---- over rows
 
@@ -61,98 +61,68 @@ module _ (T : Task) (rows : List Row) where
 
 -- ---- over flat floats
 
-module _ (floats : ℕ) where
-  -- refusals 1 and 2 come first
-  refusals-first : refusal 3 floats < 3
-  unfolding refusal
-  refusals-first = either (λ k. k < 3) _ (omega arith) (either (λ k. k < 3) _ (omega arith) (omega arith))
-
-  uneven : floats % 3 ≢ 0 → refusal 3 floats ≡ 1
-  unfolding refusal if_then_else_
-  uneven h = rw (ne-eqb (floats % 3) 0 h)
-
-  even : floats % 3 ≡ 0 → refusal 3 floats ≡ (if ltb mostRows (floats / 3) then 2 else 0)
-  unfolding refusal if_then_else_
-  even h = rw (eq-eqb (floats % 3) 0 h)
-
-  even-not-1 : floats % 3 ≡ 0 → refusal 3 floats ≢ 1
-  even-not-1 h = rw (even h) (either (λ k. k ≢ 1) _ (λ e. omega arith) (λ e. omega arith))
-
-  pub refusal-1 : refusal 3 floats ≡ 1 ↔ floats % 3 ≢ 0
-  refusal-1 = (λ one h. even-not-1 h one, uneven)
-
-  pub refusal-2 : refusal 3 floats ≡ 2 ↔ (floats % 3 ≡ 0) × (mostRows < floats / 3)
-  unfolding if_then_else_
-  refusal-2 = (
-    λ two.
-        let not-uneven : ¬ (0 < floats % 3) = λ h. omega (arith, uneven (omega arith)) in
-        let not-few : ¬ (floats / 3 ≤ mostRows) = λ few. omega (arith, rw (le-ltb mostRows (floats / 3) few) at (even (omega arith))) in
-        omega arith,
-    λ h. even (h .0) ∙ rw (lt-ltb mostRows (floats / 3) (h .1)),
-  )
-
-module _ (solving : List Row → Ended (List Row)) (flat : List Float) where
-  pub refuses : refusal 3 (length flat) ≢ 0 → taken solving flat ≡ record { outcome = Refused (refusal 3 (length flat)); rows = flat }
+module _ (T : Task) (solving : List Row → Ended (List Row)) (flat : List Float) where
+  pub refuses : refusalOf T flat ≢ 0 → taken T solving flat ≡ record { outcome = Refused (refusalOf T flat); rows = flat }
   unfolding taken if_then_else_
-  refuses refused = rw (ne-eqb (refusal 3 (length flat)) 0 refused)
+  refuses refused = rw (ne-eqb (refusalOf T flat) 0 refused)
 
-  pub takes : refusal 3 (length flat) ≡ 0 → taken solving flat ≡ record { outcome = solving (rowsOf flat) .outcome; rows = flatOf (solving (rowsOf flat) .rows) }
+  pub takes : refusalOf T flat ≡ 0 → taken T solving flat ≡ record { outcome = solving (rowsOf flat) .outcome; rows = flatOf (solving (rowsOf flat) .rows) }
   unfolding taken if_then_else_
-  takes fits = rw (eq-eqb (refusal 3 (length flat)) 0 fits)
+  takes fits = rw (eq-eqb (refusalOf T flat) 0 fits)
 
-  taken-alike : (other : List Row → Ended (List Row)) → solving (rowsOf flat) ≡ other (rowsOf flat) → taken solving flat ≡ taken other flat
+  taken-alike : (other : List Row → Ended (List Row)) → solving (rowsOf flat) ≡ other (rowsOf flat) → taken T solving flat ≡ taken T other flat
   unfolding taken
   taken-alike other e = rw e
 
 module _ (T : Task) (flat : List Float) where
-  pub lp2dIncreMaxY-refuses : refusal 3 (length flat) ≢ 0 → lp2dIncreMaxY T flat ≡ record { outcome = Refused (refusal 3 (length flat)); rows = flat }
+  pub lp2dIncreMaxY-refuses : refusalOf T flat ≢ 0 → lp2dIncreMaxY T flat ≡ record { outcome = Refused (refusalOf T flat); rows = flat }
   unfolding lp2dIncreMaxY
-  lp2dIncreMaxY-refuses = refuses (finished T) flat
+  lp2dIncreMaxY-refuses = refuses T (finished T) flat
 
-  pub lp2dIncreMaxY-answers : refusal 3 (length flat) ≡ 0 → (a : Answer) × (act : Active) × (lp2dIncreMaxY T flat .outcome ≡ Answered a act (count (allSolves T (rowsOf flat))))
+  pub lp2dIncreMaxY-answers : refusalOf T flat ≡ 0 → (a : Answer) × (act : Active) × (lp2dIncreMaxY T flat .outcome ≡ Answered a act (count (allSolves T (rowsOf flat))))
   unfolding lp2dIncreMaxY
-  lp2dIncreMaxY-answers fits = rw (takes (finished T) flat fits) (finished-answers T (rowsOf flat))
+  lp2dIncreMaxY-answers fits = rw (takes T (finished T) flat fits) (finished-answers T (rowsOf flat))
 
-  pub solve-refuses : (A : ℕ) → refusal 3 (length flat) ≢ 0 → solve T A flat ≡ record { outcome = Refused (refusal 3 (length flat)); rows = flat }
+  pub solve-refuses : (A : ℕ) → refusalOf T flat ≢ 0 → solve T A flat ≡ record { outcome = Refused (refusalOf T flat); rows = flat }
   unfolding solve
-  solve-refuses A = refuses (allowed T A) flat
+  solve-refuses A = refuses T (allowed T A) flat
 
   -- the source's own entry is the solve within any allowance that is large enough
   pub solve-finishes : (A : ℕ) → count (allSolves T (rowsOf flat)) ≤ A → solve T A flat ≡ lp2dIncreMaxY T flat
   unfolding solve lp2dIncreMaxY
-  solve-finishes A within = taken-alike (allowed T A) flat (finished T) (finishes T (rowsOf flat) A within)
+  solve-finishes A within = taken-alike T (allowed T A) flat (finished T) (finishes T (rowsOf flat) A within)
 
-  pub solve-stops : (A : ℕ) → refusal 3 (length flat) ≡ 0 → A < count (allSolves T (rowsOf flat))
+  pub solve-stops : (A : ℕ) → refusalOf T flat ≡ 0 → A < count (allSolves T (rowsOf flat))
       → solve T A flat ≡ record { outcome = Stopped 3 A; rows = flatOf (rowsWithin A (rowsOf flat) (allSolves T (rowsOf flat))) }
   unfolding solve
-  solve-stops A fits above = takes (allowed T A) flat fits ∙ rw (stops T (rowsOf flat) A above)
+  solve-stops A fits above = takes T (allowed T A) flat fits ∙ rw (stops T (rowsOf flat) A above)
 
-  outcome-where-taken : (A : ℕ) → refusal 3 (length flat) ≡ 0 → solve T A flat .outcome ≡ allowed T A (rowsOf flat) .outcome
+  outcome-where-taken : (A : ℕ) → refusalOf T flat ≡ 0 → solve T A flat .outcome ≡ allowed T A (rowsOf flat) .outcome
   unfolding solve
-  outcome-where-taken A fits = rw (takes (allowed T A) flat fits)
+  outcome-where-taken A fits = rw (takes T (allowed T A) flat fits)
 
-  number-where-refused : (A : ℕ) → refusal 3 (length flat) ≢ 0 → number (solve T A flat .outcome) ≡ refusal 3 (length flat)
+  number-where-refused : (A : ℕ) → refusalOf T flat ≢ 0 → number (solve T A flat .outcome) ≡ refusalOf T flat
   unfolding number
   number-where-refused A refused = rw (solve-refuses A refused)
 
   -- any number but 1 and 2 comes from rows that were taken
-  taken-where : (A : ℕ) → number (solve T A flat .outcome) ≢ 1 → number (solve T A flat .outcome) ≢ 2 → refusal 3 (length flat) ≡ 0
+  taken-where : (A : ℕ) → number (solve T A flat .outcome) ≢ 1 → number (solve T A flat .outcome) ≢ 2 → refusalOf T flat ≡ 0
   taken-where A not-1 not-2 =
-      let not-refused : ¬ (0 < refusal 3 (length flat)) = λ refused. omega (arith, number-where-refused A (omega arith), refusals-first (length flat)) in
+      let not-refused : ¬ (0 < refusalOf T flat) = λ refused. omega (arith, number-where-refused A (omega arith), no-other T flat) in
       omega arith
 
   -- refusals 1 and 2 are given exactly where the floats are refused
-  pub solve-refuses-exactly : (A k : ℕ) → 0 < k → k < 3 → number (solve T A flat .outcome) ≡ k ↔ refusal 3 (length flat) ≡ k
+  pub solve-refuses-exactly : (A k : ℕ) → 0 < k → k < 3 → number (solve T A flat .outcome) ≡ k ↔ refusalOf T flat ≡ k
   solve-refuses-exactly A k some few = (
     λ e.
-        let not-taken : ¬ (refusal 3 (length flat) ≡ 0) = λ fits.
+        let not-taken : ¬ (refusalOf T flat ≡ 0) = λ fits.
         let same = sym (ap number (outcome-where-taken A fits)) ∙ e in
         omega (arith, number-above T (rowsOf flat) A (above-where-refused T (rowsOf flat) A (omega arith))) in
         sym (number-where-refused A not-taken) ∙ e,
     λ e. number-where-refused A (omega arith) ∙ e,
   )
 
-  pub solve-three-exactly : (A : ℕ) → number (solve T A flat .outcome) ≡ 3 ↔ (refusal 3 (length flat) ≡ 0) × (A < count (allSolves T (rowsOf flat)))
+  pub solve-three-exactly : (A : ℕ) → number (solve T A flat .outcome) ≡ 3 ↔ (refusalOf T flat ≡ 0) × (A < count (allSolves T (rowsOf flat)))
   solve-three-exactly A = (
     λ three. let fits = taken-where A (omega arith) (omega arith) in (fits, three-exactly T (rowsOf flat) A .0 (sym (ap number (outcome-where-taken A fits)) ∙ three)),
     λ both. ap number (outcome-where-taken A (both .0)) ∙ three-exactly T (rowsOf flat) A .1 (both .1),
@@ -162,7 +132,7 @@ module _ (T : Task) (flat : List Float) where
   solve-never-four A four = let fits = taken-where A (omega arith) (omega arith) in never-four T (rowsOf flat) A (sym (ap number (outcome-where-taken A fits)) ∙ four)
 
   -- an answer keeps within the allowance
-  pub keeps-within : (A : ℕ) {a : Answer} {act : Active} {n : ℕ} → solve T A flat .outcome ≡ Answered a act n → (refusal 3 (length flat) ≡ 0) × (count (allSolves T (rowsOf flat)) ≤ A)
+  pub keeps-within : (A : ℕ) {a : Answer} {act : Active} {n : ℕ} → solve T A flat .outcome ≡ Answered a act n → (refusalOf T flat ≡ 0) × (count (allSolves T (rowsOf flat)) ≤ A)
   unfolding number
   keeps-within A e =
       let fits = taken-where A (omega (arith, ap number e)) (omega (arith, ap number e)) in

@@ -1,26 +1,45 @@
--- Both passes, and a solve of no row or one, case by case: what the code does next is what the definition says.
-use mathlib.Core.Path.{_≡_, refl, _∙_}
+-- Preparing, both passes, and a solve of no row or one, case by case: what the code does next is what the definition says.
+use mathlib.Core.Path.{_≡_, refl, sym, _∙_}
 use mathlib.Core.List.{List, [], _∷_}
-use Prim.Native.Nat.{ℕ, zero, suc, _≤_, _<_}
+use Prim.Native.Nat.{ℕ, zero, suc, _*_, _≤_, _<_}
 use native.Mathlib.Omega.{arith}
 use lib.ListN.{length, drop}
 use lib.Ieee.{Float}
 use Rattle.float.specs.Operators.{if_then_else_}
 use Rattle.readings.specs.Readings.{pure, read, _>>_, Paid, paid, stopped, within}
-use Rattle.readings.proofs.Laws.{within-pure, goes-on, goes-no-further}
+use Rattle.readings.proofs.Laws.{within-pure, reading-stops, reading-fits, goes-on, goes-no-further}
 use Rattle.rows.specs.declared.Row.{Row}
-use Rattle.rows.specs.Rows.{rowAt}
+use Rattle.rows.specs.Rows.{rowsOf, flatOf, rowAt, normalized}
+use Rattle.rows.proofs.Lengths.{length-rowsOf}
+use Rattle.rows.proofs.Written.{flat-rows}
 use Rattle.line.specs.Active.{noRows}
 use Rattle.step.specs.declared.State.{State}
 use Rattle.step.specs.declared.Found.{Found}
 use Rattle.step.specs.declared.Found.the-variants.{Failed, Done}
 use Rattle.step.specs.Step.{onward, _>>?_}
 use Rattle.passes.specs.Passes.{frame, forward, deferred}
+use Rattle.solve.specs.declared.Normalize.the-variants.{Source}
 use Rattle.solve.specs.declared.Task.{Task}
 use Rattle.solve.specs.declared.Outcome.the-variants.{Answered, Stopped}
-use Rattle.solve.specs.Once.{begun, passes, lone, once}
+use Rattle.solve.specs.Once.{prepared, begun, passes, lone, once, preparing, paying, leaves}
 use Rattle.solve.specs.Solve.{solves, allSolves, count, rowsWithin, answer, activeRows, answered, finished, allowed}
 use Rattle.solve.proofs.Allowance.{finishes, stops}
+
+-- rows are normalised where a reading is left for each, and else none is written
+module _ (left n : ℕ) (flat : List Float) (even : 3 * n ≡ length flat) where
+  abbrev ready : Paid (List Row)
+  ready = within left (prepared Source (rowsOf flat))
+
+  all : length (rowsOf flat) ≡ n
+  all = omega (arith, length-rowsOf flat)
+
+  pub normalises-paid : n ≤ left → (paying left n ≡ preparing ready) × (leaves flat ready ≡ flatOf (normalized (rowsOf flat)))
+  unfolding prepared preparing paying leaves
+  normalises-paid fits = (rw (all, reading-fits, within-pure, reading-fits, within-pure), rw (all, reading-fits, within-pure))
+
+  pub normalises-unpaid : left < n → (paying left n ≡ preparing ready) × (leaves flat ready ≡ flat)
+  unfolding prepared preparing paying leaves
+  normalises-unpaid short = (rw (all, reading-stops, reading-stops), rw (all, reading-stops))
 
 module _ (T : Task) (R : List Row) (bound : Float) (left : ℕ) where
   -- the forward pass
@@ -58,8 +77,11 @@ module _ (T : Task) (A : ℕ) where
   one-answered (r ∷ []) one some = finishes T (r ∷ []) A (omega arith)
   one-answered (r ∷ s ∷ rows) one some = absurd (omega arith)
 
-pub few-left : (T : Task) (A : ℕ) (rows : List Row) → length rows ≤ 1 → allowed T A rows .rows ≡ rows
+few-left : (T : Task) (A : ℕ) (rows : List Row) → length rows ≤ 1 → allowed T A rows .rows ≡ rows
 few-left T A [] few = rw (none-answered T A [] refl)
 few-left T zero (r ∷ []) few = rw (one-stopped T 0 (r ∷ []) refl refl)
 few-left T (suc A) (r ∷ []) few = rw (one-answered T (suc A) (r ∷ []) refl (omega arith))
 few-left T A (r ∷ s ∷ rows) few = absurd (omega arith)
+
+pub few-lent : (T : Task) (A n : ℕ) (flat : List Float) → 3 * n ≡ length flat → n ≤ 1 → flat ≡ flatOf (allowed T A (rowsOf flat) .rows)
+few-lent T A n flat even few = rw (few-left T A (rowsOf flat) (omega (arith, length-rowsOf flat))) (sym (flat-rows flat n even))

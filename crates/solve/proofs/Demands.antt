@@ -8,14 +8,15 @@ use native.Mathlib.Omega.{arith}
 use lib.ListN.{length}
 use lib.Ieee.{Float}
 use Rattle.rows.specs.Constants.{mostRows}
-use Rattle.rows.specs.Rows.{rowsOf, flatOf, refusal}
+use Rattle.rows.specs.Rows.{rowsOf, flatOf}
 use Rattle.rows.proofs.Lengths.{length-rowsOf}
 use Rattle.line.specs.declared.Slot.the-variants.{Holds}
 use Rattle.line.specs.declared.Active.{Active}
 use Rattle.solve.specs.declared.Task.{Task}
 use Rattle.solve.specs.declared.Answer.{Answer}
 use Rattle.solve.specs.declared.Outcome.the-variants.{Answered, Stopped, Refused}
-use Rattle.solve.specs.Solve.{allSolves, count, rowsWithin, solve, lp2dIncreMaxY, number}
+use Rattle.solve.specs.Solve.{allSolves, count, rowsWithin, refusalOf, solve, lp2dIncreMaxY, number}
+use Rattle.solve.proofs.Refusals as refusals
 use Rattle.solve.proofs.Allowance as allowance
 use Rattle.solve.proofs.Count as counting
 use Rattle.solve.proofs.Examples.{All, examples, examples-hold}
@@ -31,28 +32,32 @@ module _ (T : Task) (flat : List Float) where
 
   -- ---- 1. "Every entry answers for every input: any floats, any skip, any lengths." "Refusals are numbered; each says what it returns and what it leaves."
 
+  -- an input that comes out even and is not too many rows is taken
+  pub takes : refusalOf T flat ≡ 0 ↔ (length flat % 3 ≡ 0) × (lent ≤ mostRows)
+  takes = refusals.refusal-0 T flat
+
   -- refusal 1, where the floats are not a multiple of 3, and 2, above 4,096 rows
   pub refuses-1 : (A : ℕ) → number (solve T A flat .outcome) ≡ 1 ↔ length flat % 3 ≢ 0
   refuses-1 A =
       let exactly = allowance.solve-refuses-exactly T flat A 1 (omega arith) (omega arith) in
-      let when = allowance.refusal-1 (length flat) in
+      let when = refusals.refusal-1 T flat in
       (λ e. when .0 (exactly .0 e), λ h. exactly .1 (when .1 h))
 
   pub refuses-2 : (A : ℕ) → number (solve T A flat .outcome) ≡ 2 ↔ (length flat % 3 ≡ 0) × (mostRows < lent)
   refuses-2 A =
       let exactly = allowance.solve-refuses-exactly T flat A 2 (omega arith) (omega arith) in
-      let when = allowance.refusal-2 (length flat) in
+      let when = refusals.refusal-2 T flat in
       (λ e. when .0 (exactly .0 e), λ h. exactly .1 (when .1 h))
 
   -- either gives its number, and leaves the floats as they were; so does the entry with no allowance
-  pub refuses : (A : ℕ) → refusal 3 (length flat) ≢ 0 → solve T A flat ≡ record { outcome = Refused (refusal 3 (length flat)); rows = flat }
+  pub refuses : (A : ℕ) → refusalOf T flat ≢ 0 → solve T A flat ≡ record { outcome = Refused (refusalOf T flat); rows = flat }
   refuses = allowance.solve-refuses T flat
 
-  pub refuses-alike : refusal 3 (length flat) ≢ 0 → lp2dIncreMaxY T flat ≡ record { outcome = Refused (refusal 3 (length flat)); rows = flat }
+  pub refuses-alike : refusalOf T flat ≢ 0 → lp2dIncreMaxY T flat ≡ record { outcome = Refused (refusalOf T flat); rows = flat }
   refuses-alike = allowance.lp2dIncreMaxY-refuses T flat
 
   -- every other input has an answer, which that entry always gives
-  pub answers : refusal 3 (length flat) ≡ 0 → (a : Answer) × (act : Active) × (lp2dIncreMaxY T flat .outcome ≡ Answered a act taken)
+  pub answers : refusalOf T flat ≡ 0 → (a : Answer) × (act : Active) × (lp2dIncreMaxY T flat .outcome ≡ Answered a act taken)
   answers = allowance.lp2dIncreMaxY-answers T flat
 
   -- refusal 4 is never given
@@ -88,10 +93,10 @@ module _ (T : Task) (flat : List Float) where
 
   -- "Given an allowance it stops unfinished exactly when its count without one exceeds it": it gives back the allowance as its count, no active rows, and the rows as after the last
   -- normalisation whose readings all fitted
-  pub stops-exactly : (A : ℕ) → number (solve T A flat .outcome) ≡ 3 ↔ (refusal 3 (length flat) ≡ 0) × (A < taken)
+  pub stops-exactly : (A : ℕ) → number (solve T A flat .outcome) ≡ 3 ↔ (refusalOf T flat ≡ 0) × (A < taken)
   stops-exactly = allowance.solve-three-exactly T flat
 
-  pub stops : (A : ℕ) → refusal 3 (length flat) ≡ 0 → A < taken → solve T A flat ≡ record { outcome = Stopped 3 A; rows = flatOf (rowsWithin A (rowsOf flat) (allSolves T (rowsOf flat))) }
+  pub stops : (A : ℕ) → refusalOf T flat ≡ 0 → A < taken → solve T A flat ≡ record { outcome = Stopped 3 A; rows = flatOf (rowsWithin A (rowsOf flat) (allSolves T (rowsOf flat))) }
   stops = allowance.solve-stops T flat
 
   -- "otherwise answer, rows and active rows are those of demand 2"

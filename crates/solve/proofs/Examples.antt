@@ -35,7 +35,7 @@ use Rattle.solve.specs.declared.Answer.the-variants.{Point, Level, Nothi
 use Rattle.solve.specs.declared.Outcome.the-variants.{Answered, Stopped}
 use Rattle.passes.specs.Passes.{violated, frame, secondTry, repair, afterTrial, pivot, forward, excess, worst, none, deferred}
 use Rattle.solve.specs.Once.{prepared, widened, begun, passes, saturated, onBox, lone, many, once}
-use Rattle.solve.specs.Solve.{solves, allSolves, count, rowsWithin, answer, activeRows, answered, finished, allowed, taken, solve}
+use Rattle.solve.specs.Solve.{solves, allSolves, count, rowsWithin, answer, activeRows, answered, finished, allowed, refusalOf, taken, solve}
 
 -- ---- how a line is written
 
@@ -129,5 +129,5 @@ unfolding
     meeting lp1dCore onY onX onLine pairsOf lp1d onward _>>?_ steepEnd steepStep uncrossed chosen flatEnd flatStep step every meets notAbove works firstThatWorks bounded cut interval
     everywhere middle attempts inside project onBoundary alone factors together oneSupports twoSupport supportedBy supports orderedBy ordered plausible tested qualified candidate better
     judge turn rebuild seedOf floorOf unmoved rebuilt onBoundaries recover violated frame secondTry repair afterTrial pivot forward excess worst none deferred prepared widened begun
-    passes saturated onBox lone many once solves allSolves count rowsWithin answer activeRows answered finished allowed taken solve round neg add sub mul div lt le eq isNan ofBits
+    passes saturated onBox lone many once solves allSolves count rowsWithin answer activeRows answered finished allowed refusalOf taken solve round neg add sub mul div lt le eq isNan ofBits
 examples-hold = (refl, (refl, (refl, (refl, (refl, (refl, (refl, (refl, (refl, (refl, (refl, (refl, (refl, (refl, (refl, (refl, (refl, (refl, (refl, tt)))))))))))))))))))

@@ -1,5 +1,6 @@
 pub mod Examples
 pub mod Rules
+pub mod Refusals
 pub mod Allowance
 pub mod RowsLeft
 pub mod Values

@@ -2,7 +2,7 @@
 -- those that were lent, whatever it returns.
 use mathlib.Core.Path.{_≡_, refl, ap}
 use mathlib.Core.List.{List, [], _∷_}
-use Prim.Native.Nat.{ℕ, zero, suc, _-_, _/_, _≤_, _<_}
+use Prim.Native.Nat.{ℕ, zero, suc, _+_, _-_, _/_, _≤_, _<_}
 use native.Mathlib.Decide.{ℕ-discrete}
 use native.Mathlib.Omega.{arith}
 use borrow.Author.Tests.{lt-ltb, le-ltb}
@@ -13,13 +13,13 @@ use Rattle.readings.specs.Readings.{Counted, pure, read, _>>_}
 use Rattle.readings.proofs.Gives.{either}
 use Rattle.rows.specs.Constants.{lpBound, lpBoxGrowth}
 use Rattle.rows.specs.declared.Row.{Row}
-use Rattle.rows.specs.Rows.{rowsOf, flatOf, refusal, normalized}
-use Rattle.rows.proofs.Refusals as even
+use Rattle.rows.specs.Rows.{rowsOf, flatOf, normalized}
 use Rattle.rows.proofs.Written.{flat-rows}
 use Rattle.solve.specs.declared.Normalize.the-variants.{Off, Source}
 use Rattle.solve.specs.declared.Task.{Task}
 use Rattle.solve.specs.Once.{Once, prepared, many, once}
-use Rattle.solve.specs.Solve.{solves, allSolves, count, rowsWithin, Ended, answered, finished, allowed, taken, solve}
+use Rattle.solve.specs.Solve.{solves, allSolves, count, rowsWithin, Ended, answered, finished, allowed, refusalOf, taken, solve}
+use Rattle.solve.proofs.Refusals.{refusal-0}
 use Rattle.solve.proofs.Allowance.{stops, refuses, takes}
 
 -- ---- stopped
@@ -36,15 +36,23 @@ unfolding many prepared
 normalises T rows bound source two = rw (once-many T rows bound two, source)
 
 module _ (left : ℕ) (rows : List Row) (o : Once) (os : List Once) where
-  -- one for which too few are left touches no row
+  abbrev taken-first : ℕ
+  taken-first = o .rows .readings + o .run .readings
+
+  -- a normalisation for which too few are left touches no row
   pub untouched : left < o .rows .readings → rowsWithin left rows (o ∷ os) ≡ rows
   unfolding rowsWithin if_then_else_
   untouched short = rw (lt-ltb left (o .rows .readings) short)
 
-  -- one that fits leaves its rows, unless a later one fits too
-  pub normalised-first : o .rows .readings ≤ left → rowsWithin left rows (o ∷ os) ≡ rowsWithin (left - o .rows .readings - o .run .readings) (o .rows .value) os
+  -- one that fits leaves its rows where too few are left for the passes
+  pub normalised-last : o .rows .readings ≤ left → left < taken-first → rowsWithin left rows (o ∷ os) ≡ o .rows .value
   unfolding rowsWithin if_then_else_
-  normalised-first fits = rw (le-ltb left (o .rows .readings) fits)
+  normalised-last fits short = rw (le-ltb left (o .rows .readings) fits, lt-ltb left taken-first short)
+
+  -- and else hands them to the next
+  pub normalised-on : taken-first ≤ left → rowsWithin left rows (o ∷ os) ≡ rowsWithin (left - taken-first) (o .rows .value) os
+  unfolding rowsWithin if_then_else_
+  normalised-on fits = rw (le-ltb left (o .rows .readings) (omega arith), le-ltb left taken-first fits)
 
 -- so an allowance below the number of rows is too small for the first, and leaves them as they were lent
 pub first-untouched : (T : Task) (A : ℕ) (rows : List Row) → T .normalize ≡ Source → 2 ≤ length rows → A < length rows → allowed T A rows .rows ≡ rows
@@ -63,7 +71,9 @@ Leaving rows (o ∷ os) = (o .rows .value ≡ rows) × Leaving rows os
 pub stopped-as-lent : (left : ℕ) (rows : List Row) (os : List Once) → Leaving rows os → rowsWithin left rows os ≡ rows
 unfolding rowsWithin
 stopped-as-lent left rows [] h = refl
-stopped-as-lent left rows (o ∷ os) h = either (λ rest. rest ≡ rows) _ refl (rw (h .0) (stopped-as-lent (left - o .rows .readings - o .run .readings) rows os (h .1)))
+stopped-as-lent left rows (o ∷ os) h =
+    let later = stopped-as-lent (left - (o .rows .readings + o .run .readings)) rows os (h .1) in
+    either (λ rest. rest ≡ rows) _ refl (either (λ rest. rest ≡ rows) _ (h .0) (rw (h .0) later))
 
 answered-as-lent : (n : ℕ) (rows : List Row) (os : List Once) → Leaving rows os → answered n rows os .rows ≡ rows
 unfolding answered
@@ -96,8 +106,8 @@ rows-again (r ∷ rows) = ap (λ l. r ∷ l) (rows-again rows)
 
 pub solve-as-lent : (T : Task) → T .normalize ≡ Off → (A : ℕ) (flat : List Float) → solve T A flat .rows ≡ flat
 unfolding solve
-solve-as-lent T off A flat = go (ℕ-discrete (refusal 3 (length flat)) 0)
+solve-as-lent T off A flat = go (ℕ-discrete (refusalOf T flat) 0)
   where
-    go : Dec (refusal 3 (length flat) ≡ 0) → taken (allowed T A) flat .rows ≡ flat
-    go (yes fits) = rw (takes (allowed T A) flat fits, as-lent T off A (rowsOf flat)) (flat-rows flat (length flat / 3) (omega (arith, even.taken 3 (length flat) fits)))
-    go (no refused) = rw (refuses (allowed T A) flat refused)
+    go : Dec (refusalOf T flat ≡ 0) → taken T (allowed T A) flat .rows ≡ flat
+    go (yes fits) = rw (takes T (allowed T A) flat fits, as-lent T off A (rowsOf flat)) (flat-rows flat (length flat / 3) (omega (arith, refusal-0 T flat .0 fits)))
+    go (no refused) = rw (refuses T (allowed T A) flat refused)

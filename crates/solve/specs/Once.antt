@@ -1,11 +1,12 @@
 -- `lp_2d_incre_max_y_once`: one solve over one box. Assumes nothing.
+use Prim.Native.Nat.{ℕ}
 use mathlib.Core.Bool.{Bool, false, _&&_, _||_}
 use mathlib.Core.List.{List, [], _∷_}
 use lib.ListN.{length, drop}
 use lib.Ieee.{Float, nan}
 use Rattle.float.specs.Operators.{if_then_else_, _⊗_, _⊘_, _≺_, _≼_, _≻_, _≈_}
 use Rattle.float.specs.Float.{abs, finite, max}
-use Rattle.readings.specs.Readings.{Counted, pure, read, _>>_, Paid, paid, stopped}
+use Rattle.readings.specs.Readings.{Counted, pure, read, _>>_, Paid, paid, stopped, within}
 use Rattle.rows.specs.Constants.{epsZero, lpBound, lpBoxGrowth, half, maxDeferredRounds}
 use Rattle.rows.specs.declared.Row.{Row}
 use Rattle.rows.specs.declared.Point.{Point}
@@ -82,6 +83,10 @@ unfoldable pub preparing : Paid (List Row) → Prepared
 preparing (paid rows left) = prepared-is.Done left
 preparing stopped = prepared-is.Spent
 
+-- so many readings taken off those left
+unfoldable pub paying : ℕ → ℕ → Prepared
+paying left readings = preparing (within left (read readings >> pure []))
+
 -- what preparing leaves in the lent floats: nothing is written where the readings do not fit
 unfoldable pub leaves : List Float → Paid (List Row) → List Float
 leaves flat (paid rows left) = flatOf rows
@@ -91,3 +96,8 @@ unfoldable pub rounded : Float → Paid Found → Round
 rounded wide (paid Failed left) = round-is.Off Failed left
 rounded wide (paid (Done s) left) = if saturated (s .at) wide then round-is.OnBox s left else round-is.Off (Done s) left
 rounded wide stopped = round-is.Spent
+
+-- a solve over one box, of the rows as they were prepared
+unfoldable pub rounding : Task → Float → Paid (List Row) → Round
+rounding T bound (paid R left) = let wide = widened (T .start) bound in rounded wide (within left (passes T R wide))
+rounding T bound stopped = round-is.Spent

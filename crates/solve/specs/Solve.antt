@@ -43,12 +43,13 @@ unfoldable pub count : List Once → ℕ
 count [] = 0
 count (o ∷ os) = o .rows .readings + o .run .readings + count os
 
--- the rows after the last normalisation whose readings all fitted in those left
+-- the rows after the last normalisation whose readings all fitted in those left: too few for a solve's rows leave them, and too few for its passes end it
 unfoldable pub rowsWithin : ℕ → List Row → List Once → List Row
 rowsWithin left rows [] = rows
 rowsWithin left rows (o ∷ os) =
-    let rest = rowsWithin (left - o .rows .readings - o .run .readings) (o .rows .value) os in
-    if ltb left (o .rows .readings) then rows else rest
+    let taken = o .rows .readings + o .run .readings in
+    let rest = rowsWithin (left - taken) (o .rows .value) os in
+    if ltb left (o .rows .readings) then rows else if ltb left taken then o .rows .value else rest
 
 -- ---- what comes back
 
@@ -93,18 +94,18 @@ allowed T allowance rows =
 unfoldable pub refusalOf : Task → List Float → ℕ
 refusalOf T flat = refusal 3 (length flat)
 
-unfoldable pub taken : (List Row → Ended (List Row)) → List Float → Ended (List Float)
-taken solving flat =
-    let number = refusal 3 (length flat) in
+unfoldable pub taken : Task → (List Row → Ended (List Row)) → List Float → Ended (List Float)
+taken T solving flat =
+    let number = refusalOf T flat in
     let e = solving (rowsOf flat) in
     if eqb number 0 then record { outcome = e .outcome; rows = flatOf (e .rows) } else record { outcome = Refused number; rows = flat }
 
 unfoldable pub solve : Task → ℕ → List Float → Ended (List Float)
-solve T allowance flat = taken (allowed T allowance) flat
+solve T allowance flat = taken T (allowed T allowance) flat
 
 -- the source's own entry: no allowance, and a collector that is off
 unfoldable pub lp2dIncreMaxY : Task → List Float → Ended (List Float)
-lp2dIncreMaxY T flat = taken (finished T) flat
+lp2dIncreMaxY T flat = taken T (finished T) flat
 
 unfoldable pub silent : Outcome → Solution
 silent (Answered a act n) = solution-is.Answered a

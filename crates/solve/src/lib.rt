@@ -14,7 +14,7 @@ ghost use Rattle.float.specs.Float.{finite};
 ghost use Rattle.readings.specs.Readings.{within};
 ghost use Rattle.rows.specs.Rows.{rowsOf, flatOf};
 ghost use Rattle.step.specs.Step.{stepped};
-ghost use Rattle.solve.specs.Once.{prepared, preparing, leaves, widened, begun, passes, saturated, rounded, lone};
+ghost use Rattle.solve.specs.Once.{prepared, preparing, paying, leaves, widened, begun, passes, saturated, rounded, rounding, lone};
 ghost use Rattle.solve.specs.declared.Outcome.the-variants.{Answered};
 ghost use Rattle.solve.specs.Solve.{answer, activeRows, allowed, refusalOf, solve, lp2dIncreMaxY, silent};
 
@@ -72,7 +72,17 @@ pub enum Round {
 
 // ---- one solve over one box
 
-// The n rows as a solve works on them. Normalising takes all its readings before it writes a row.
+// So many readings taken off those left, or too few are left.
+fn pay(left: u64, readings: u64) -> Prepared
+    ensures { λ r. ⌜ r ≡ paying left readings ⌝ }
+{
+    if left < readings {
+        return Prepared::Spent;
+    }
+    Prepared::Done(left - readings)
+}
+
+// The n rows as a solve works on them. Normalising writes no row unless all its readings are left.
 fn prepare(rows: &mut [f64], n: usize, mode: Normalize, left: u64) -> Prepared
     requires { ⌜ 3 * n ≡ length (now rows) ⌝ }
     ensures answer { λ r. ⌜ r ≡ preparing (within left (prepared mode (rowsOf (now (rows .entry))))) ⌝ }
@@ -82,11 +92,10 @@ fn prepare(rows: &mut [f64], n: usize, mode: Normalize, left: u64) -> Prepared
         Normalize::Off => Prepared::Done(left),
         Normalize::Source => {
             let readings = n as u64;
-            if left < readings {
-                return Prepared::Spent;
+            if readings <= left {
+                rows::normalize(rows, n);
             }
-            rows::normalize(rows, n);
-            Prepared::Done(left - readings)
+            pay(left, readings)
         }
     }
 }
@@ -162,6 +171,7 @@ fn both_passes(rows: &[f64], n: usize, task: Task, bound: f64, left: u64) -> Ste
     }
 }
 
+// A solve over one box, of rows that are prepared.
 fn one_round(rows: &[f64], n: usize, task: Task, bound: f64, left: u64) -> Round
     requires { ⌜ 3 * n ≡ length (now rows) ⌝ }
     ensures { λ r. ⌜ r ≡ rounded (widened (task .start) bound) (within left (passes task (rowsOf (now (rows .entry))) (widened (task .start) bound))) ⌝ }
@@ -179,6 +189,26 @@ fn one_round(rows: &[f64], n: usize, task: Task, bound: f64, left: u64) -> Round
             }
             Round::Off(Found::Done(s), rest)
         }
+    }
+}
+
+// A solve of two rows or more over one box: the rows are prepared, and what is left of the readings goes to the passes.
+fn solve_once(
+    rows: &mut [f64],
+    n: usize,
+    task: Task,
+    mode: Normalize,
+    bound: f64,
+    left: u64,
+) -> Round
+    requires { ⌜ 3 * n ≡ length (now rows) ⌝ }
+    ensures answer { λ r. ⌜ r ≡ rounding task bound (within left (prepared mode (rowsOf (now (rows .entry))))) ⌝ }
+    ensures lent { λ _. ⌜ now (rows .exit) ≡ leaves (now (rows .entry)) (within left (prepared mode (rowsOf (now (rows .entry))))) ⌝ }
+{
+    let ready = prepare(rows, n, mode, left);
+    match ready {
+        Prepared::Spent => Round::Spent,
+        Prepared::Done(rest) => one_round(rows, n, task, bound, rest),
     }
 }
 
@@ -243,7 +273,8 @@ fn lone(r: Row) -> Found
 // No row, or one: nothing is normalised, and the count is the row count.
 fn few(rows: &[f64], n: usize, task: Task, allowance: u64) -> Outcome
     requires { ⌜ (3 * n ≡ length (now rows)) × (n ≤ 1) ⌝ }
-    ensures { λ r. ⌜ r ≡ allowed task allowance (rowsOf (now (rows .entry))) .outcome ⌝ }
+    ensures answer { λ r. ⌜ r ≡ allowed task allowance (rowsOf (now (rows .entry))) .outcome ⌝ }
+    ensures lent { λ _. ⌜ now (rows .entry) ≡ flatOf (allowed task allowance (rowsOf (now (rows .entry))) .rows) ⌝ }
 {
     if n == 0 {
         return answered(Found::Failed, 0);
@@ -254,23 +285,19 @@ fn few(rows: &[f64], n: usize, task: Task, allowance: u64) -> Outcome
     answered(lone(rows::row_at(rows, 0)), 1)
 }
 
-// Two rows or more: seven solves at most, each of the rows as the one before left them and over a larger box. The last
-// one always returns.
+// Two rows or more: seven solves at most, each of the rows as the one before left them, normalised again, and over a larger
+// box. The last one always returns.
 fn many(rows: &mut [f64], n: usize, task: Task, allowance: u64) -> Outcome
     requires { ⌜ (3 * n ≡ length (now rows)) × (2 ≤ n) ⌝ }
     ensures answer { λ r. ⌜ r ≡ allowed task allowance (rowsOf (now (rows .entry))) .outcome ⌝ }
     ensures lent { λ _. ⌜ now (rows .exit) ≡ flatOf (allowed task allowance (rowsOf (now (rows .entry))) .rows) ⌝ }
 {
-    let mode = task.normalize;
+    let mut mode = task.normalize;
     let mut bound = 1e6;
     let mut left = allowance;
     let mut k = 0usize;
     while k < 7 {
-        let ready = prepare(rows, n, mode, left);
-        let Prepared::Done(rest) = ready else {
-            return Outcome::Stopped(3, allowance);
-        };
-        let got = one_round(rows, n, task, bound, rest);
+        let got = solve_once(rows, n, task, mode, bound, left);
         match got {
             Round::Spent => {
                 return Outcome::Stopped(3, allowance);
@@ -285,11 +312,24 @@ fn many(rows: &mut [f64], n: usize, task: Task, allowance: u64) -> Outcome
                 left = over;
             }
         }
+        mode = task.normalize;
         bound = bound * 1e3;
         k += 1;
     }
     let count = allowance - left;
     Outcome::Stopped(4, count)
+}
+
+// Any number of rows.
+fn of_rows(rows: &mut [f64], n: usize, task: Task, allowance: u64) -> Outcome
+    requires { ⌜ 3 * n ≡ length (now rows) ⌝ }
+    ensures answer { λ r. ⌜ r ≡ allowed task allowance (rowsOf (now (rows .entry))) .outcome ⌝ }
+    ensures lent { λ _. ⌜ now (rows .exit) ≡ flatOf (allowed task allowance (rowsOf (now (rows .entry))) .rows) ⌝ }
+{
+    if n < 2 {
+        return few(rows, n, task, allowance);
+    }
+    many(rows, n, task, allowance)
 }
 
 // ---- the entries
@@ -312,10 +352,7 @@ pub fn solve(rows: &mut [f64], task: Task, allowance: u64) -> Outcome
         return Outcome::Refused(number);
     }
     let n = rows.len() / 3;
-    if n < 2 {
-        return few(rows, n, task, allowance);
-    }
-    many(rows, n, task, allowance)
+    of_rows(rows, n, task, allowance)
 }
 
 // Public: the source's own entry, with no allowance and a silent collector.

@@ -6,7 +6,7 @@ use lib.ListN.{length}
 use denote.Ref.{now}
 use Rattle.rows.specs.Rows.{rowsOf}
 use Rattle.rows.proofs.Lengths.{length-rowsOf}
-use Rattle.solve.proofs.Cases.{none-answered, one-stopped, one-answered}
+use Rattle.solve.proofs.Cases.{none-answered, one-stopped, one-answered, few-lent}
 use Rattle.solve.proofs.few.Statement.{statement}
 use Rattle.solve.proofs.few.Tie as tie
 
@@ -16,14 +16,18 @@ answered-requires c κs = search needs
 returns : tie.Need-returns
 returns c =
     let a = c .before .before .before .args in
-    let none : length (rowsOf (now (a .rows))) ≡ 0 = omega (arith, length-rowsOf (now (a .rows))) in
-    rw (none-answered (a .task) (a .allowance) (rowsOf (now (a .rows))) none) (c .answered .ensures)
+    let none : length (rowsOf (now (a .rows))) ≡ 0 = omega (arith, length-rowsOf (now (a .rows))) in (
+      rw (none-answered (a .task) (a .allowance) (rowsOf (now (a .rows))) none) (c .answered .ensures),
+      few-lent (a .task) (a .allowance) (a .n) (now (a .rows)) (omega arith) (omega arith),
+    )
 
 returns-2 : tie.Need-returns-2
 returns-2 c =
     let a = c .before .before .before .args in
-    let one : length (rowsOf (now (a .rows))) ≡ 1 = omega (arith, length-rowsOf (now (a .rows))) in
-    rw (one-stopped (a .task) (a .allowance) (rowsOf (now (a .rows))) one (c .if2 .taken))
+    let one : length (rowsOf (now (a .rows))) ≡ 1 = omega (arith, length-rowsOf (now (a .rows))) in (
+      rw (one-stopped (a .task) (a .allowance) (rowsOf (now (a .rows))) one (c .if2 .taken)),
+      few-lent (a .task) (a .allowance) (a .n) (now (a .rows)) (omega arith) (omega arith),
+    )
 
 row-at-requires : tie.Need-row-at-requires
 row-at-requires c κs = search needs
@@ -38,7 +42,10 @@ returns-3 : tie.Need-returns-3
 returns-3 c =
     let a = c .before .before .before .before .before .before .args in
     let one : length (rowsOf (now (a .rows))) ≡ 1 = omega (arith, length-rowsOf (now (a .rows))) in
-    rw (one-answered (a .task) (a .allowance) (rowsOf (now (a .rows))) one (omega arith), ← c .before .before .row-at .ensures, ← c .before .lone .ensures) (c .answered2 .ensures)
+    let counted = one-answered (a .task) (a .allowance) (rowsOf (now (a .rows))) one (omega arith) in (
+      rw (counted, ← c .before .before .row-at .ensures, ← c .before .lone .ensures) (c .answered2 .ensures),
+      few-lent (a .task) (a .allowance) (a .n) (now (a .rows)) (omega arith) (omega arith),
+    )
 
 pub few-spec : {M : Type 1} → statement M
 few-spec =
