@@ -5,9 +5,9 @@ use mathlib.Core.Path.{_≡_, refl}
 use mathlib.Core.Bool.{Bool, true, false, not}
 use mathlib.Core.Logic.{_↔_}
 use mathlib.Core.List.{List}
-use Prim.Native.Nat.{ℕ, _/_, _%_, _≤_, _<_}
+use Prim.Native.Nat.{ℕ, _/_, _%_, _<_}
 use native.Mathlib.Omega.{arith}
-use borrow.Author.Tests.{eq-eqb, eqb-true, eqb-false, lt-ltb, le-ltb, ltb-true, ltb-false}
+use borrow.Author.Tests.{eqb-true, eqb-false, lt-ltb, ltb-true, ltb-false}
 use lib.Dec.{eqb, ltb}
 use lib.ListN.{length}
 use lib.Ieee.{Float}
@@ -15,8 +15,6 @@ use Rattle.float.specs.Operators.{if_then_else_}
 use Rattle.rows.specs.Constants.{mostRows}
 use Rattle.rows.specs.declared.Row.{Row}
 use Rattle.rows.specs.Rows.{rowsOf, flatOf, refusal}
-use Rattle.rows.proofs.Lengths.{length-flatOf}
-use Rattle.rows.proofs.Refusals.{taken}
 use Rattle.line.specs.declared.Slot.{Slot}
 use Rattle.line.specs.declared.Slot.the-variants.{NoRow, Holds}
 use Rattle.line.specs.declared.Active.{Active}
@@ -71,9 +69,9 @@ source-number (Stopped k n) = refl
 source-number (Refused k) = refl
 
 -- the solves by themselves give none above 3
-floats-below : (floats : ℕ) → refusal 3 floats < 3
-unfolding refusal if_then_else_
-floats-below floats = by-tests (eqb (floats % 3) 0) (ltb mostRows (floats / 3))
+own-below : (T : Task) (flat : List Float) → Solve.refusalOf T flat < 3
+unfolding Solve.refusalOf refusal if_then_else_
+own-below T flat = by-tests (eqb (length flat % 3) 0) (ltb mostRows (length flat / 3))
   where
     by-tests : (even many : Bool) → (if not even then 1 else if many then 2 else 0) < 3
     by-tests false many = omega arith
@@ -81,51 +79,44 @@ floats-below floats = by-tests (eqb (floats % 3) 0) (ltb mostRows (floats / 3))
     by-tests true false = omega arith
 
 module _ (T : Task) (flat : List Float) where
-  own-below : Solve.refusalOf T flat < 3
-  unfolding Solve.refusalOf
-  own-below = floats-below (length flat)
+  abbrev own : ℕ
+  own = Solve.refusalOf T flat
 
   lp2d-below : number (lp2dIncreMaxY T flat .outcome) < 4
   unfolding number Solve.refusalOf
-  lp2d-below = by-test (eqb (refusal 3 (length flat)) 0) refl
+  lp2d-below = by-test (eqb own 0) refl
     where
-      by-test : (b : Bool) → eqb (refusal 3 (length flat)) 0 ≡ b → number (lp2dIncreMaxY T flat .outcome) < 4
-      by-test true p = rw (of-floats.answers T flat (eqb-true _ 0 p) .2) (omega arith)
-      by-test false p = rw (of-floats.refuses-alike T flat (eqb-false _ 0 p)) (omega (arith, floats-below (length flat)))
+      by-test : (none : Bool) → eqb own 0 ≡ none → number (lp2dIncreMaxY T flat .outcome) < 4
+      by-test true p = rw (of-floats.answers T flat (eqb-true own 0 p) .2) (omega arith)
+      by-test false p = rw (of-floats.refuses-alike T flat (eqb-false own 0 p)) (omega (arith, own-below T flat))
 
   solve-below : (A : ℕ) → number (solve T A flat .outcome) < 4
   unfolding number Solve.refusalOf
-  solve-below A = by-test (ltb A (count (allSolves T (rowsOf flat)))) refl
+  solve-below A = by-test (eqb own 0) (ltb A taken) refl refl
     where
-      by-test : (b : Bool) → ltb A (count (allSolves T (rowsOf flat))) ≡ b → number (solve T A flat .outcome) < 4
-      by-test true p = by-refusal (eqb (refusal 3 (length flat)) 0) refl
-        where
-          by-refusal : (b : Bool) → eqb (refusal 3 (length flat)) 0 ≡ b → number (solve T A flat .outcome) < 4
-          by-refusal true q = rw (of-floats.stops T flat A (eqb-true _ 0 q) (ltb-true A _ p)) (omega arith)
-          by-refusal false q = rw (of-floats.refuses T flat A (eqb-false _ 0 q)) (omega (arith, floats-below (length flat)))
-      by-test false p = rw (of-floats.finishes T flat A (ltb-false A _ p)) lp2d-below
+      taken : ℕ
+      taken = count (allSolves T (rowsOf flat))
+
+      by-test : (none above : Bool) → eqb own 0 ≡ none → ltb A taken ≡ above → number (solve T A flat .outcome) < 4
+      by-test false above p q = rw (of-floats.refuses T flat A (eqb-false own 0 p)) (omega (arith, own-below T flat))
+      by-test true true p q = rw (of-floats.stops T flat A (eqb-true own 0 p) (ltb-true A taken q)) (omega arith)
+      by-test true false p q = rw (of-floats.finishes T flat A (ltb-false A taken q)) lp2d-below
 
 -- ---- refusal 10 is given exactly where neither 1 nor 2 is and the task's number is above 1, and leaves the rows as they were
 
 module _ (t : SolveTask) (flat : List Float) where
   abbrev Ten : Type 0
-  Ten = (length flat % 3 ≡ 0) × (length flat / 3 ≤ mostRows) × (1 < t .normalize)
-
-  own-none : Solve.refusalOf (task t) flat ≡ 0 ↔ (length flat % 3 ≡ 0) × (length flat / 3 ≤ mostRows)
-  unfolding Solve.refusalOf refusal if_then_else_
-  own-none = (λ e. taken 3 (length flat) e, λ h. rw (eq-eqb _ 0 (h .0), le-ltb mostRows _ (h .1)))
+  Ten = (own (task t) flat ≡ 0) × (1 < t .normalize)
 
   ten-is : refusalOf t flat ≡ 10 ↔ Ten
   unfolding refusalOf orTen noMode if_then_else_
-  ten-is = (by-test (eqb own 0) (ltb 1 (t .normalize)) refl refl, λ h. rw (own-none .1 (h .0, h .1), lt-ltb 1 (t .normalize) (h .2)))
+  ten-is = (by-tests (eqb (own (task t) flat) 0) (ltb 1 (t .normalize)) refl refl, λ h. rw (h .0, lt-ltb 1 (t .normalize) (h .1)))
     where
-      own : ℕ
-      own = Solve.refusalOf (task t) flat
-
-      by-test : (none ten : Bool) → eqb own 0 ≡ none → ltb 1 (t .normalize) ≡ ten → (if not none then own else if ten then 10 else 0) ≡ 10 → Ten
-      by-test true true p q e = let fits = own-none .0 (eqb-true own 0 p) in (fits .0, fits .1, ltb-true 1 (t .normalize) q)
-      by-test true false p q e = absurd (omega arith)
-      by-test false ten p q e = absurd (omega (arith, own-below (task t) flat))
+      by-tests : (none ten : Bool) → eqb (own (task t) flat) 0 ≡ none → ltb 1 (t .normalize) ≡ ten
+          → (if not none then own (task t) flat else if ten then 10 else 0) ≡ 10 → Ten
+      by-tests true true p q e = (eqb-true (own (task t) flat) 0 p, ltb-true 1 (t .normalize) q)
+      by-tests true false p q e = absurd (omega arith)
+      by-tests false ten p q e = absurd (omega (arith, own-below (task t) flat))
 
   abbrev as-it-was : Ended (List Float)
   as-it-was = record { outcome = Refused (refusalOf t flat); rows = flat }
@@ -147,16 +138,9 @@ module _ (t : SolveTask) (flat : List Float) where
   unfolding solvingSource
   source-ten-exactly = rw (source-number (solvingSource t flat .outcome)) (exactly (lp2dIncreMaxY (task t) flat) (lp2d-below (task t) flat))
 
-module _ (t : SolveTask) (rows : List Row) where
-  abbrev TenRows : Type 0
-  TenRows = (length rows ≤ mostRows) × (1 < t .normalize)
-
-  as-floats : TenRows → Ten t (flatOf rows)
-  as-floats h = (omega (arith, length-flatOf rows), omega (arith, length-flatOf rows), h .1)
-
-  pub rows-ten-exactly : (solved (solvingRows t rows .outcome) .refusal ≡ 10 ↔ TenRows) × (TenRows → solvingRows t rows .rows ≡ rows)
-  unfolding solvingRows
-  rows-ten-exactly =
-      let flat = ten-exactly t (flatOf rows) in
-      let given : solved (solving t (flatOf rows) .outcome) .refusal ≡ 10 → TenRows = λ e. let h = flat .0 .0 e in (omega (arith, length-flatOf rows), h .2) in
-      ((given, λ h. flat .0 .1 (as-floats h)), λ h. rw (flat .1 (as-floats h)) (rows-of-floats rows))
+pub rows-ten-exactly : (t : SolveTask) (rows : List Row)
+    → (solved (solvingRows t rows .outcome) .refusal ≡ 10 ↔ Ten t (flatOf rows)) × (Ten t (flatOf rows) → solvingRows t rows .rows ≡ rows)
+unfolding solvingRows
+rows-ten-exactly t rows =
+    let flat = ten-exactly t (flatOf rows) in
+    (flat .0, λ h. rw (flat .1 h) (rows-of-floats rows))

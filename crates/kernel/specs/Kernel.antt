@@ -1,4 +1,4 @@
--- What the entries of the static library return of the records that C hands them, and what they leave in the rows lent to them. Assumes nothing.
+-- What the entries of the static library make of the records that C hands them, and what they leave in the rows lent to them. Assumes nothing.
 use Prim.Native.Nat.{ℕ}
 use mathlib.Core.Bool.{Bool, not}
 use mathlib.Core.List.{List}
@@ -38,7 +38,7 @@ task t =
       normalize = if eqb (t .normalize) 0 then Off else Source;
     }
 
--- no mode of normalising has this number: 0 is for none, 1 for the source's
+-- no mode of normalising has this number: 0 is Off, 1 the source's
 unfoldable pub noMode : ℕ → Bool
 noMode number = ltb 1 number
 
@@ -46,7 +46,7 @@ noMode number = ltb 1 number
 unfoldable pub orTen : ℕ → ℕ → ℕ
 orTen number mode = if not (eqb number 0) then number else if noMode mode then 10 else 0
 
--- which refusal an input gets before a row is read, and 0 where it gets none: the solve's own, 1 or 2, and then 10
+-- which refusal an input gets before a row is read, and 0 where it gets none: the solve's own, 1 or 2, and then 10 (RULES 10)
 unfoldable pub refusalOf : SolveTask → List Float → ℕ
 refusalOf t flat = orTen (Solve.refusalOf (task t) flat) (t .normalize)
 

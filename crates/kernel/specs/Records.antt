@@ -1,5 +1,5 @@
--- What crosses to C as records: "no row" as a flag, an answer's kind as a number, and a value for every field. A coordinate or an end that an answer
--- does not have, or that is refused, is NaN. Assumes nothing.
+-- What crosses to C: each answer as a record, with a value in every field for every input (RULES 9, 10 and 12). Its refusal is a number, 0 where there
+-- is none; a coordinate or an end that it does not have is NaN, and anything else that it does not have 0. Assumes nothing.
 use Prim.Native.Nat.{ℕ}
 use mathlib.Core.Bool.{Bool, true, false}
 use lib.Ieee.{nan}
@@ -28,7 +28,7 @@ use Rattle.kernel.specs.declared.RecoveredPoint.{RecoveredPoint}
 
 -- ---- a row or no row
 
--- a flag that is false is no row, whatever the number
+-- as a flag and a number, which says nothing where the flag is false
 unfoldable pub slot : Bool → ℕ → Slot
 slot false k = NoRow
 slot true k = Holds k
@@ -43,15 +43,18 @@ rowNumber (Holds k) = k
 
 -- ---- what a solve answers
 
+-- the kinds: 1 has both numbers, 2 has y alone, 3 x alone, and 4 neither
 unfoldable pub answered : Answer → SourceSolved
 answered (answer-is.Point x y) = record { refusal = 0; kind = 1; x = x; y = y }
 answered (answer-is.Level y) = record { refusal = 0; kind = 2; x = nan; y = y }
 answered (answer-is.Across x) = record { refusal = 0; kind = 3; x = x; y = nan }
 answered answer-is.Nothing = record { refusal = 0; kind = 4; x = nan; y = nan }
 
+-- and 0 is no answer
 unfoldable pub refused : ℕ → SourceSolved
 refused number = record { refusal = number; kind = 0; x = nan; y = nan }
 
+-- with the count and the active rows
 unfoldable pub withRows : SourceSolved → ℕ → Active → Solved
 withRows s count act =
     record {
@@ -69,11 +72,13 @@ withRows s count act =
 unfoldable pub unsolved : ℕ → ℕ → Solved
 unsolved number count = withRows (refused number) count noRows
 
+-- refusal 3 has its count; one that comes before a row is read has 0
 unfoldable pub solved : Outcome → Solved
 solved (outcome-is.Answered a act n) = withRows (answered a) n act
 solved (outcome-is.Stopped number n) = unsolved number n
 solved (outcome-is.Refused number) = unsolved number 0
 
+-- what the source's own entry answers
 unfoldable pub source : Solution → SourceSolved
 source (solution-is.Answered a) = answered a
 source (solution-is.Refused number) = refused number
