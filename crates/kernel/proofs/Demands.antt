@@ -5,16 +5,14 @@ use mathlib.Core.Path.{_≡_, refl}
 use mathlib.Core.Bool.{Bool, true, false, not}
 use mathlib.Core.Logic.{_↔_}
 use mathlib.Core.List.{List}
-use Prim.Native.Nat.{ℕ, _/_, _%_, _<_}
+use Prim.Native.Nat.{ℕ, _<_}
 use native.Mathlib.Omega.{arith}
 use borrow.Author.Tests.{eqb-true, eqb-false, lt-ltb, ltb-true, ltb-false}
 use lib.Dec.{eqb, ltb}
-use lib.ListN.{length}
 use lib.Ieee.{Float}
 use Rattle.float.specs.Operators.{if_then_else_}
-use Rattle.rows.specs.Constants.{mostRows}
 use Rattle.rows.specs.declared.Row.{Row}
-use Rattle.rows.specs.Rows.{rowsOf, flatOf, refusal}
+use Rattle.rows.specs.Rows.{rowsOf, flatOf}
 use Rattle.line.specs.declared.Slot.{Slot}
 use Rattle.line.specs.declared.Slot.the-variants.{NoRow, Holds}
 use Rattle.line.specs.declared.Active.{Active}
@@ -25,6 +23,7 @@ use Rattle.solve.specs.declared.Outcome.{Outcome}
 use Rattle.solve.specs.declared.Outcome.the-variants.{Answered, Stopped, Refused}
 use Rattle.solve.specs.Solve as Solve
 use Rattle.solve.specs.Solve.{Ended, allSolves, count, number, silent, solve, lp2dIncreMaxY}
+use Rattle.solve.proofs.Refusals.{no-other}
 use Rattle.solve.proofs.Demands as of-floats
 use Rattle.lent.proofs.Demands.{rows-of-floats}
 use Rattle.kernel.specs.declared.SolveTask.{SolveTask}
@@ -69,36 +68,27 @@ source-number (Stopped k n) = refl
 source-number (Refused k) = refl
 
 -- the solves by themselves give none above 3
-own-below : (T : Task) (flat : List Float) → Solve.refusalOf T flat < 3
-unfolding Solve.refusalOf refusal if_then_else_
-own-below T flat = by-tests (eqb (length flat % 3) 0) (ltb mostRows (length flat / 3))
-  where
-    by-tests : (even many : Bool) → (if not even then 1 else if many then 2 else 0) < 3
-    by-tests false many = omega arith
-    by-tests true true = omega arith
-    by-tests true false = omega arith
-
 module _ (T : Task) (flat : List Float) where
   abbrev own : ℕ
   own = Solve.refusalOf T flat
 
   lp2d-below : number (lp2dIncreMaxY T flat .outcome) < 4
-  unfolding number Solve.refusalOf
+  unfolding number
   lp2d-below = by-test (eqb own 0) refl
     where
       by-test : (none : Bool) → eqb own 0 ≡ none → number (lp2dIncreMaxY T flat .outcome) < 4
       by-test true p = rw (of-floats.answers T flat (eqb-true own 0 p) .2) (omega arith)
-      by-test false p = rw (of-floats.refuses-alike T flat (eqb-false own 0 p)) (omega (arith, own-below T flat))
+      by-test false p = rw (of-floats.refuses-alike T flat (eqb-false own 0 p)) (omega (arith, no-other T flat))
 
   solve-below : (A : ℕ) → number (solve T A flat .outcome) < 4
-  unfolding number Solve.refusalOf
+  unfolding number
   solve-below A = by-test (eqb own 0) (ltb A taken) refl refl
     where
       taken : ℕ
       taken = count (allSolves T (rowsOf flat))
 
       by-test : (none above : Bool) → eqb own 0 ≡ none → ltb A taken ≡ above → number (solve T A flat .outcome) < 4
-      by-test false above p q = rw (of-floats.refuses T flat A (eqb-false own 0 p)) (omega (arith, own-below T flat))
+      by-test false above p q = rw (of-floats.refuses T flat A (eqb-false own 0 p)) (omega (arith, no-other T flat))
       by-test true true p q = rw (of-floats.stops T flat A (eqb-true own 0 p) (ltb-true A taken q)) (omega arith)
       by-test true false p q = rw (of-floats.finishes T flat A (ltb-false A taken q)) lp2d-below
 
@@ -116,7 +106,7 @@ module _ (t : SolveTask) (flat : List Float) where
           → (if not none then own (task t) flat else if ten then 10 else 0) ≡ 10 → Ten
       by-tests true true p q e = (eqb-true (own (task t) flat) 0 p, ltb-true 1 (t .normalize) q)
       by-tests true false p q e = absurd (omega arith)
-      by-tests false ten p q e = absurd (omega (arith, own-below (task t) flat))
+      by-tests false ten p q e = absurd (omega (arith, no-other (task t) flat))
 
   abbrev as-it-was : Ended (List Float)
   as-it-was = record { outcome = Refused (refusalOf t flat); rows = flat }

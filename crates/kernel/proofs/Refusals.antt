@@ -85,11 +85,11 @@ module _ (t : SolveTask) (flat : List Float) where
       by-test false p = sym (refuses (eqb-false own-refusal 0 p))
 
   pub solving-solves : noMode (t .normalize) ≡ false → solving t flat ≡ solve (task t) (t .allowance) flat
-  unfolding solving Solve.refusalOf
+  unfolding solving
   solving-solves = with-a-mode (solve (task t) (t .allowance) flat) (of-floats.refuses (task t) flat (t .allowance))
 
   pub source-solves : noMode (t .normalize) ≡ false → solvingSource t flat ≡ lp2dIncreMaxY (task t) flat
-  unfolding solvingSource Solve.refusalOf
+  unfolding solvingSource
   source-solves = with-a-mode (lp2dIncreMaxY (task t) flat) (of-floats.refuses-alike (task t) flat)
 
 -- ---- and of rows that are records

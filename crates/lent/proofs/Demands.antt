@@ -12,7 +12,7 @@ use Rattle.float.specs.Operators.{if_then_else_}
 use Rattle.rows.specs.Constants.{mostRows}
 use Rattle.rows.specs.declared.Row.{Row}
 use Rattle.rows.specs.declared.Point.{Point}
-use Rattle.rows.specs.Rows.{rowsOf, flatOf, refusal}
+use Rattle.rows.specs.Rows.{rowsOf, flatOf}
 use Rattle.rows.proofs.Lengths.{length-flatOf}
 use Rattle.line.specs.declared.Active.{Active}
 use Rattle.line.specs.Active.{noRows}
@@ -22,8 +22,8 @@ use Rattle.recover.specs.declared.Recovered.the-variants as recovered-is
 use Rattle.solve.specs.declared.Task.{Task}
 use Rattle.solve.specs.declared.Answer.{Answer}
 use Rattle.solve.specs.declared.Outcome.the-variants.{Answered, Stopped, Refused}
-use Rattle.solve.specs.Solve.{Ended, number, allowed, taken, solve, collector}
-use Rattle.solve.proofs.Allowance.{refusal-2}
+use Rattle.solve.specs.Solve.{Ended, number, refusalOf, allowed, taken, solve, collector}
+use Rattle.solve.proofs.Refusals.{refusal-2}
 use Rattle.solve.proofs.Demands as of-floats
 use Rattle.lent.specs.Lent.{kept, remains, solveRows}
 
@@ -47,7 +47,7 @@ module _ (T : Task) (A : ℕ) (rows : List Row) where
 
   pub same-floats : flatOf (solveRows T A rows .rows) ≡ solve T A (flatOf rows) .rows
   unfolding solveRows solve taken
-  same-floats = either (eqb (refusal 3 (length (flatOf rows))) 0) _ _ (ap flatOf (rows-of-floats (allowed T A (rowsOf (flatOf rows)) .rows))) (ap flatOf (rows-of-floats rows))
+  same-floats = either (eqb (refusalOf T (flatOf rows)) 0) _ _ (ap flatOf (rows-of-floats (allowed T A (rowsOf (flatOf rows)) .rows))) (ap flatOf (rows-of-floats rows))
 
   -- refusal 1 is never given
   pub never-one : number (solveRows T A rows .outcome) ≢ 1
@@ -65,7 +65,7 @@ module _ (T : Task) (A : ℕ) (rows : List Row) where
   pub refuses : mostRows < length rows → solveRows T A rows ≡ record { outcome = Refused 2; rows = rows }
   unfolding solveRows
   refuses many =
-      let two : refusal 3 (length (flatOf rows)) ≡ 2 = refusal-2 (length (flatOf rows)) .1 (omega (arith, length-flatOf rows), omega (arith, length-flatOf rows)) in
+      let two : refusalOf T (flatOf rows) ≡ 2 = refusal-2 T (flatOf rows) .1 (omega (arith, length-flatOf rows), omega (arith, length-flatOf rows)) in
       rw (of-floats.refuses T (flatOf rows) A (λ e. omega (arith, two)), two, rows-of-floats rows)
 
 -- ---- the collector
