@@ -1,4 +1,4 @@
--- What document 01 says of the entries over what is lent, in the terms of their contracts. `solve_rows` gives back `solveRows T A rows`.
+-- What RULES 2 and 10 say of the entries over what is lent, in the terms of their contracts. `solve_rows` gives back `solveRows T A rows`.
 use mathlib.Core.Path.{_≡_, refl, ap}
 use mathlib.Core.Bool.{Bool, true, false}
 use mathlib.Core.Logic.{_↔_, _≢_}
@@ -34,12 +34,20 @@ unfolding rowsOf flatOf
 rows-of-floats [] = refl
 rows-of-floats (r ∷ rows) = ap {B = List Row} (λ l. r ∷ l) (rows-of-floats rows)
 
-either : (b : Bool) (x y : Ended (List Float)) → flatOf (rowsOf (x .rows)) ≡ x .rows → flatOf (rowsOf (y .rows)) ≡ y .rows → flatOf (rowsOf ((if b then x else y) .rows)) ≡ (if b then x else y) .rows
+either : (b : Bool) (x y : Ended (List Float)) → flatOf (rowsOf (x .rows)) ≡ x .rows → flatOf (rowsOf (y .rows)) ≡ y .rows
+    → flatOf (rowsOf ((if b then x else y) .rows)) ≡ (if b then x else y) .rows
 unfolding if_then_else_
 either true x y p q = p
 either false x y p q = q
 
 module _ (T : Task) (A : ℕ) (rows : List Row) where
+  -- the refusal of the same floats, by its number
+  abbrev refused : ℕ
+  refused = refusalOf T (flatOf rows)
+
+  refused-2 : mostRows < length rows → refused ≡ 2
+  refused-2 many = refusal-2 T (flatOf rows) .1 (omega (arith, length-flatOf rows), omega (arith, length-flatOf rows))
+
   -- what the flat entry answers of the same floats, with its count and active rows, and the floats that it leaves, one row after the other
   pub same-answer : solveRows T A rows .outcome ≡ solve T A (flatOf rows) .outcome
   unfolding solveRows
@@ -47,7 +55,7 @@ module _ (T : Task) (A : ℕ) (rows : List Row) where
 
   pub same-floats : flatOf (solveRows T A rows .rows) ≡ solve T A (flatOf rows) .rows
   unfolding solveRows solve taken
-  same-floats = either (eqb (refusalOf T (flatOf rows)) 0) _ _ (ap flatOf (rows-of-floats (allowed T A (rowsOf (flatOf rows)) .rows))) (ap flatOf (rows-of-floats rows))
+  same-floats = either (eqb refused 0) _ _ (ap flatOf (rows-of-floats (allowed T A (rowsOf (flatOf rows)) .rows))) (ap flatOf (rows-of-floats rows))
 
   -- refusal 1 is never given
   pub never-one : number (solveRows T A rows .outcome) ≢ 1
@@ -64,9 +72,7 @@ module _ (T : Task) (A : ℕ) (rows : List Row) where
   -- which leaves the rows as they were
   pub refuses : mostRows < length rows → solveRows T A rows ≡ record { outcome = Refused 2; rows = rows }
   unfolding solveRows
-  refuses many =
-      let two : refusalOf T (flatOf rows) ≡ 2 = refusal-2 T (flatOf rows) .1 (omega (arith, length-flatOf rows), omega (arith, length-flatOf rows)) in
-      rw (of-floats.refuses T (flatOf rows) A (λ e. omega (arith, two)), two, rows-of-floats rows)
+  refuses many = rw (of-floats.refuses T (flatOf rows) A (λ e. omega (arith, refused-2 many)), refused-2 many, rows-of-floats rows)
 
 -- ---- the collector
 

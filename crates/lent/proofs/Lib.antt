@@ -2,6 +2,8 @@ pub mod Copy
 pub mod Demands
 pub mod Laws
 pub mod Prefix
+pub mod Rules
 pub mod Set
+pub mod Slices
 pub mod Through
 pub mod Unique

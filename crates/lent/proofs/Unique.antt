@@ -1,5 +1,6 @@
 -- The contracts of the public entries leave no choice: whatever two results and exit states they allow of one call, the results are equal, and so are the
--- records and the floats that are lent. A walked function's contract is read as the logic has it: what it ensures of the one beside what it ensures of the other.
+-- records and the floats that are lent. A walked function's contract is read as the logic has it: what it ensures of the one beside what it ensures of the
+-- other.
 use mathlib.Core.Path.{_≡_, sym, _∙_}
 use mathlib.Core.List.{List}
 use lib.Ieee.{Float}
@@ -25,7 +26,8 @@ use Rattle.lent.proofs.recover_collecting as recover-collecting
 use Rattle.lent.proofs.solve_rows as solve-rows
 
 -- what two assertions say of two values is that each is the same one
-same : {M : Type 1} (𝓤 : URA M) {X : Type 0} (x y z : X) (P Q : SProp 𝓤) → ent 𝓤 P (fact 𝓤 (x ≡ z)) → ent 𝓤 Q (fact 𝓤 (y ≡ z)) → ent 𝓤 (sep 𝓤 P Q) (fact 𝓤 (x ≡ y))
+same : {M : Type 1} (𝓤 : URA M) {X : Type 0} (x y z : X) (P Q : SProp 𝓤) → ent 𝓤 P (fact 𝓤 (x ≡ z)) → ent 𝓤 Q (fact 𝓤 (y ≡ z))
+    → ent 𝓤 (sep 𝓤 P Q) (fact 𝓤 (x ≡ y))
 same 𝓤 x y z P Q p q =
     fact-use 𝓤 (x ≡ z) (via 𝓤 P (fst∗ 𝓤 P Q) p) (λ h. fact-use 𝓤 (y ≡ z) (via 𝓤 Q (snd∗ 𝓤 P Q) q) (λ k. factI 𝓤 (x ≡ y) (sep 𝓤 P Q) (h ∙ sym k)))
 
@@ -58,7 +60,8 @@ module _ {M : Type 1} (𝓤 : URA M) (H : Heap 𝓤) (A : Atoms 𝓤) (mem : Mem
   pub set-second-lent : One set-second.ended (set-second.clauses 𝓤 H A mem run) (λ κs z e. now (e .0))
   set-second-lent κs a g z z′ e e′ = same 𝓤 _ _ _ _ _ (id⊢ 𝓤 _) (id⊢ 𝓤 _)
 
-  module _ (κs : Lfts (solve-collecting.signature .lifetimes)) (a : Args solve-collecting.signature κs) (z z′ : Outcome) (e e′ : AtExit solve-collecting.ended κs) where
+  module _ (κs : Lfts (solve-collecting.signature .lifetimes)) (a : Args solve-collecting.signature κs) (z z′ : Outcome)
+      (e e′ : AtExit solve-collecting.ended κs) where
     abbrev solved : Ended (List Float)
     solved = solve (a .1 .0) (a .1 .1 .0) (now (a .0))
 
@@ -69,7 +72,8 @@ module _ {M : Type 1} (𝓤 : URA M) (H : Heap 𝓤) (A : Atoms 𝓤) (mem : Mem
     Says y u = sep 𝓤 (fact 𝓤 (y ≡ solved .outcome)) (Rest u)
 
     answers : ent 𝓤 (sep 𝓤 (Says z e) (Says z′ e′)) (fact 𝓤 (z ≡ z′))
-    answers = same 𝓤 z z′ (solved .outcome) (Says z e) (Says z′ e′) (fst∗ 𝓤 (fact 𝓤 (z ≡ solved .outcome)) (Rest e)) (fst∗ 𝓤 (fact 𝓤 (z′ ≡ solved .outcome)) (Rest e′))
+    answers = same 𝓤 z z′ (solved .outcome) (Says z e) (Says z′ e′) (fst∗ 𝓤 (fact 𝓤 (z ≡ solved .outcome)) (Rest e))
+        (fst∗ 𝓤 (fact 𝓤 (z′ ≡ solved .outcome)) (Rest e′))
 
     rests : ent 𝓤 (sep 𝓤 (Says z e) (Says z′ e′)) (sep 𝓤 (Rest e) (Rest e′))
     rests = mono∗ 𝓤 (snd∗ 𝓤 (fact 𝓤 (z ≡ solved .outcome)) (Rest e)) (snd∗ 𝓤 (fact 𝓤 (z′ ≡ solved .outcome)) (Rest e′))
@@ -78,10 +82,14 @@ module _ {M : Type 1} (𝓤 : URA M) (H : Heap 𝓤) (A : Atoms 𝓤) (mem : Mem
   solve-collecting-answer κs a g z z′ e e′ = answers κs a z z′ e e′
 
   pub solve-collecting-lent : One solve-collecting.ended (solve-collecting.clauses 𝓤 H A mem run) (λ κs z e. now (e .0))
-  solve-collecting-lent κs a g z z′ e e′ = via 𝓤 (sep 𝓤 (Rest κs a z z′ e e′ e) (Rest κs a z z′ e e′ e′)) (rests κs a z z′ e e′) (firsts 𝓤 (now (e .0)) (now (e′ .0)) _ (now (e .1 .1 .1 .0)) (now (e′ .1 .1 .1 .0)) _)
+  solve-collecting-lent κs a g z z′ e e′ =
+      via 𝓤 (sep 𝓤 (Rest κs a z z′ e e′ e) (Rest κs a z z′ e e′ e′)) (rests κs a z z′ e e′)
+      (firsts 𝓤 (now (e .0)) (now (e′ .0)) _ (now (e .1 .1 .1 .0)) (now (e′ .1 .1 .1 .0)) _)
 
   pub solve-collecting-collected : One solve-collecting.ended (solve-collecting.clauses 𝓤 H A mem run) (λ κs z e. now (e .1 .1 .1 .0))
-  solve-collecting-collected κs a g z z′ e e′ = via 𝓤 (sep 𝓤 (Rest κs a z z′ e e′ e) (Rest κs a z z′ e e′ e′)) (rests κs a z z′ e e′) (seconds 𝓤 (now (e .0)) (now (e′ .0)) _ (now (e .1 .1 .1 .0)) (now (e′ .1 .1 .1 .0)) _)
+  solve-collecting-collected κs a g z z′ e e′ =
+      via 𝓤 (sep 𝓤 (Rest κs a z z′ e e′ e) (Rest κs a z z′ e e′ e′)) (rests κs a z z′ e e′)
+      (seconds 𝓤 (now (e .0)) (now (e′ .0)) _ (now (e .1 .1 .1 .0)) (now (e′ .1 .1 .1 .0)) _)
 
   pub recover-collecting-answer : One recover-collecting.ended (recover-collecting.clauses 𝓤 H A mem run) (λ κs z e. z)
   recover-collecting-answer κs a g z z′ e e′ = firsts 𝓤 z z′ _ (now (e .1 .1 .1 .1 .0)) (now (e′ .1 .1 .1 .1 .0)) _

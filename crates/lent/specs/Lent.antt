@@ -1,6 +1,9 @@
 -- What the entries over a lent record and over a slice of row records give back and leave. Assumes nothing.
 use Prim.Native.Nat.{ℕ}
 use mathlib.Core.List.{List}
+use lib.Dec.{ltb}
+use Rattle.float.specs.Operators.{if_then_else_}
+use Rattle.rows.specs.Constants.{mostRows}
 use Rattle.rows.specs.declared.Row.{Row}
 use Rattle.rows.specs.Rows.{rowsOf, flatOf}
 use Rattle.line.specs.declared.Active.{Active}
@@ -26,6 +29,14 @@ answered (recovered-is.Refused number) = recovery-is.Refused number
 unfoldable pub remains : Active → Recovered → Active
 remains act (recovered-is.At p coll) = held coll
 remains act (recovered-is.Refused number) = act
+
+-- the most rows that go by way of the small array
+abbrev pub fewRows : ℕ
+fewRows = 64
+
+-- the refusal of n rows, by its number; 0 where they are taken
+unfoldable pub tooMany : ℕ → ℕ
+tooMany n = if ltb mostRows n then 2 else 0
 
 -- the solve of rows that are records: that of their floats, one row after the other
 unfoldable pub solveRows : Task → ℕ → List Row → Ended (List Row)

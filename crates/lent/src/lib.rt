@@ -8,14 +8,22 @@ use solve::Task;
 use step::Collector;
 use step::Frame;
 ghost use mathlib.Core.Path.{_≡_};
-ghost use Prim.Native.Nat.{_*_, _≤_, _<_};
+ghost use Prim.Native.Nat.{_+_, _*_, _≤_, _<_};
+ghost use lib.Dec.{leb};
 ghost use lib.ListN.{length, set, take};
 ghost use Rattle.line.specs.Active.{noRows, setFirst, setSecond};
 ghost use Rattle.step.specs.declared.Collector.the-variants.{On};
+ghost use Rattle.rows.specs.Constants.{mostRows};
 ghost use Rattle.rows.specs.Rows.{rowsOf, rowAt};
 ghost use Rattle.recover.specs.Recover.{recovering};
 ghost use Rattle.solve.specs.Solve.{solve};
-ghost use Rattle.lent.specs.Lent.{kept, answered, remains, solveRows};
+ghost use Rattle.lent.specs.Lent.{kept, answered, remains, fewRows, tooMany, solveRows};
+
+// The most rows that are taken.
+const MOST: usize = 4096;
+
+// The most rows that go by way of the small array, which costs little to make.
+const FEW: usize = 64;
 
 // What `recover_collecting` answers: a point, or a refusal by its number.
 pub enum Recovery {
@@ -23,27 +31,45 @@ pub enum Recovery {
     Refused(u64),
 }
 
-// ---- the collector, a record that is lent
+// ---- the collector, a record that is lent: what is stored there, and the entries that store it
+
+fn without() -> Active
+    ensures { λ a. ⌜ a ≡ noRows ⌝ }
+{
+    line::no_rows()
+}
+
+fn with_first(k: usize, act: Active) -> Active
+    ensures { λ a. ⌜ a ≡ setFirst k act ⌝ }
+{
+    line::set_first(k, act)
+}
+
+fn with_second(k: usize, act: Active) -> Active
+    ensures { λ a. ⌜ a ≡ setSecond k act ⌝ }
+{
+    line::set_second(k, act)
+}
 
 // Public: no rows.
 pub fn clear(c: &mut Active)
     ensures { λ _. ⌜ now (c .exit) ≡ noRows ⌝ }
 {
-    *c = line::no_rows();
+    *c = without();
 }
 
 // Public: row k is the first, and the second stays.
 pub fn set_first(c: &mut Active, k: usize)
     ensures { λ _. ⌜ now (c .exit) ≡ setFirst k (now (c .entry)) ⌝ }
 {
-    *c = line::set_first(k, *c);
+    *c = with_first(k, *c);
 }
 
 // Public: row k is the second, and the first stays.
 pub fn set_second(c: &mut Active, k: usize)
     ensures { λ _. ⌜ now (c .exit) ≡ setSecond k (now (c .entry)) ⌝ }
 {
-    *c = line::set_second(k, *c);
+    *c = with_second(k, *c);
 }
 
 // What a collector holds after a solve.
@@ -132,6 +158,23 @@ fn put(rows: &mut [Row], k: usize, r: Row)
 
 // ---- from records to floats and back
 
+// Row k of the floats becomes the record.
+fn lay(flat: &mut [f64], k: usize, r: Row)
+    requires { ⌜ 3 * k + 2 < length (now flat) ⌝ }
+    ensures laid { λ _. ⌜ rowsOf (now (flat .exit)) ≡ set (rowsOf (now (flat .entry))) k r ⌝ }
+    ensures as_long { λ _. ⌜ length (now (flat .exit)) ≡ length (now (flat .entry)) ⌝ }
+{
+    rows::put_row(flat, k, r);
+}
+
+// Row k of the floats, as a record.
+fn lift(flat: &[f64], k: usize) -> Row
+    requires { ⌜ 3 * k + 2 < length (now flat) ⌝ }
+    ensures { λ r. ⌜ r ≡ rowAt (rowsOf (now (flat .entry))) k ⌝ }
+{
+    rows::row_at(flat, k)
+}
+
 // The first n rows, from records to floats.
 fn gather(rows: &[Row], flat: &mut [f64], n: usize)
     requires { ⌜ (n ≤ length (now rows)) × (3 * n ≤ length (now flat)) ⌝ }
@@ -140,7 +183,7 @@ fn gather(rows: &[Row], flat: &mut [f64], n: usize)
     let mut k = 0usize;
     while k < n {
         let r = get(rows, k);
-        rows::put_row(flat, k, r);
+        lay(flat, k, r);
         k += 1;
     }
 }
@@ -152,7 +195,7 @@ fn scatter(flat: &[f64], rows: &mut [Row], n: usize)
 {
     let mut k = 0usize;
     while k < n {
-        let r = rows::row_at(flat, k);
+        let r = lift(flat, k);
         put(rows, k, r);
         k += 1;
     }
@@ -168,13 +211,13 @@ fn solve_first(flat: &mut [f64], n: usize, task: Task, allowance: u64) -> Outcom
     solve::solve(&mut flat[..end], task, allowance)
 }
 
-// By way of an array of 192 floats, which costs little to make.
+// By way of the small array.
 fn solve_few(rows: &mut [Row], task: Task, allowance: u64) -> Outcome
-    requires { ⌜ 3 * length (now rows) ≤ 192 ⌝ }
+    requires { ⌜ length (now rows) ≤ fewRows ⌝ }
     ensures answer { λ r. ⌜ r ≡ solveRows task allowance (now (rows .entry)) .outcome ⌝ }
     ensures lent { λ _. ⌜ now (rows .exit) ≡ solveRows task allowance (now (rows .entry)) .rows ⌝ }
 {
-    let mut flat = [0.0; 192];
+    let mut flat = [0.0; 3 * FEW];
     let n = rows.len();
     gather(rows, &mut flat, n);
     let outcome = solve_first(&mut flat, n, task, allowance);
@@ -182,18 +225,32 @@ fn solve_few(rows: &mut [Row], task: Task, allowance: u64) -> Outcome
     outcome
 }
 
-// By way of an array of 12,288 floats, which holds as many rows as are taken.
+// By way of the large array, which holds as many rows as are taken.
 fn solve_most(rows: &mut [Row], task: Task, allowance: u64) -> Outcome
-    requires { ⌜ 3 * length (now rows) ≤ 12288 ⌝ }
+    requires { ⌜ length (now rows) ≤ mostRows ⌝ }
     ensures answer { λ r. ⌜ r ≡ solveRows task allowance (now (rows .entry)) .outcome ⌝ }
     ensures lent { λ _. ⌜ now (rows .exit) ≡ solveRows task allowance (now (rows .entry)) .rows ⌝ }
 {
-    let mut flat = [0.0; 12288];
+    let mut flat = [0.0; 3 * MOST];
     let n = rows.len();
     gather(rows, &mut flat, n);
     let outcome = solve_first(&mut flat, n, task, allowance);
     scatter(&flat, rows, n);
     outcome
+}
+
+// The refusal of so many rows, by its number; 0 where they are taken.
+fn refusal(n: usize) -> u64
+    ensures { λ r. ⌜ r ≡ tooMany n ⌝ }
+{
+    if n > MOST { 2 } else { 0 }
+}
+
+// Whether so many rows go by way of the small array.
+fn is_few(n: usize) -> bool
+    ensures { λ r. ⌜ r ≡ leb n fewRows ⌝ }
+{
+    n <= FEW
 }
 
 // Public: the solve of rows that are records, which answers and leaves what `solve` does of their floats, one row after the
@@ -203,11 +260,12 @@ pub fn solve_rows(rows: &mut [Row], task: Task, allowance: u64) -> Outcome
     ensures lent { λ _. ⌜ now (rows .exit) ≡ solveRows task allowance (now (rows .entry)) .rows ⌝ }
 {
     let n = rows.len();
-    if n > 4096 {
-        return Outcome::Refused(2);
+    let number = refusal(n);
+    if number != 0 {
+        return Outcome::Refused(number);
     }
-    if n > 64 {
-        return solve_most(rows, task, allowance);
+    if is_few(n) {
+        return solve_few(rows, task, allowance);
     }
-    solve_few(rows, task, allowance)
+    solve_most(rows, task, allowance)
 }

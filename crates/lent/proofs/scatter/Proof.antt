@@ -10,9 +10,9 @@ use contract.Monad.{fact}
 use contract.Running.{givenOf, tables, tablesOf}
 use denote.Triple.Table.{cited}
 use Rattle.rows.specs.declared.Row.{Row}
-use Rattle.rows.proofs.row_at.Symbol as get-def
-use Rattle.rows.proofs.row_at.Symbol.{name as #get}
-use Rattle.rows.proofs.row_at.Met as get-thm
+use Rattle.lent.proofs.lift.Symbol as get-def
+use Rattle.lent.proofs.lift.Symbol.{name as #get}
+use Rattle.lent.proofs.lift.Met as get-thm
 use Rattle.lent.proofs.put.Symbol as put-def
 use Rattle.lent.proofs.put.Symbol.{name as #put}
 use Rattle.lent.proofs.put.Met as put-thm
@@ -35,7 +35,8 @@ unfolding code.routine tablesOf
 scatter-spec 𝓤 H 𝓜 𝓖 𝓡 =
     let W = givenOf 𝓤 H 𝓜 𝓖 in
     let 𝓣 = tablesOf 𝓤 H 𝓜 (tables 𝓤 H 𝓜 𝓡 code.env) in
-    proved 𝓤 H 𝓜 𝓖 𝓡 f.ended (stayed floats records) (clauses floats records #get #put 𝓤 H (𝓖 .A) (Stored 𝓤) (stored 𝓤)) code.env #own code.function (code.unfolded 𝓤 H 𝓜 𝓡) (goes floats records #get #put 𝓤 H (𝓖 .A) (Stored 𝓤) (stored 𝓤) W)
-    (walks floats records #get #put 𝓤 H (𝓖 .A) (Stored 𝓤) (stored 𝓤) W 𝓣 (fmOf 𝓤 H (W .laws) 𝓣)
-    (cited 𝓤 H (Get floats records #get #put 𝓤 H (𝓖 .A) (Stored 𝓤) (stored 𝓤)) 𝓜 𝓡 code.env #get get-def.routine code.calls-rows·row-at (get-thm.met 𝓤 H 𝓜 𝓖 𝓡))
-    (cited 𝓤 H (Put floats records #get #put 𝓤 H (𝓖 .A) (Stored 𝓤) (stored 𝓤)) 𝓜 𝓡 code.env #put put-def.routine code.calls-lent·put (put-thm.met 𝓤 H 𝓜 𝓖 𝓡)))
+    proved 𝓤 H 𝓜 𝓖 𝓡 f.ended (stayed floats records) (clauses floats records 𝓤) code.env #own code.function (code.unfolded 𝓤 H 𝓜 𝓡)
+    (goes floats records 𝓤 H (𝓖 .A) W)
+    (walks floats records 𝓤 (Stored 𝓤) H (𝓖 .A) W (stored 𝓤) #get #put 𝓣 (fmOf 𝓤 H (W .laws) 𝓣)
+    (cited 𝓤 H (Get floats records 𝓤 (Stored 𝓤) H (𝓖 .A)) 𝓜 𝓡 code.env #get get-def.routine code.calls-lent·lift (get-thm.met 𝓤 H 𝓜 𝓖 𝓡))
+    (cited 𝓤 H (Put floats records 𝓤 (Stored 𝓤) H (𝓖 .A)) 𝓜 𝓡 code.env #put put-def.routine code.calls-lent·put (put-thm.met 𝓤 H 𝓜 𝓖 𝓡)))

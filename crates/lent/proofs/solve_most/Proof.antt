@@ -1,9 +1,10 @@
--- `lent::solve_most` meets its contract, by the walk of `Through` at an array of 12,288 floats. Assumes nothing.
+-- `lent::solve_most` meets its contract, by the walk of `Through` at the large array. Assumes nothing.
 use mathlib.Core.Bool.{true}
 use lib.Dec.{lit<}
 use sound.WpLaws.{fmOf}
 use contract.Running.{givenOf, tables, tablesOf}
 use denote.Triple.Table.{cited}
+use Rattle.rows.specs.Constants.{mostRows}
 use Rattle.lent.proofs.Laws.{proved}
 use Rattle.lent.proofs.Through.{stayed, clauses, Gather, Solving, Scatter, goes, walks}
 use Rattle.lent.proofs.gather.Symbol as gather-def
@@ -25,8 +26,8 @@ unfolding code.routine tablesOf
 solve-most-spec 𝓤 H 𝓜 𝓖 𝓡 =
     let W = givenOf 𝓤 H 𝓜 𝓖 in
     let 𝓣 = tablesOf 𝓤 H 𝓜 (tables 𝓤 H 𝓜 𝓡 code.env) in
-    proved 𝓤 H 𝓜 𝓖 𝓡 f.ended stayed (clauses true 12288 𝓤 H (𝓖 .A) (𝓜 .mem) (𝓡 .run)) code.env #own code.function (code.unfolded 𝓤 H 𝓜 𝓡) (goes true 12288 𝓤 H (𝓖 .A) (𝓜 .mem) (𝓡 .run) W)
-    (walks true 12288 𝓤 H (𝓖 .A) (𝓜 .mem) (𝓡 .run) W (lit< tt, lit< tt) (𝓣 .C) (𝓣 .Λ) (fmOf 𝓤 H (W .laws) 𝓣)
-    (cited 𝓤 H (Gather true 12288 𝓤 H (𝓖 .A) (𝓜 .mem) (𝓡 .run)) 𝓜 𝓡 code.env #gather gather-def.routine code.calls-lent·gather (gather-thm.met 𝓤 H 𝓜 𝓖 𝓡))
-    (cited 𝓤 H (Solving true 12288 𝓤 H (𝓖 .A) (𝓜 .mem) (𝓡 .run)) 𝓜 𝓡 code.env #solving solving-def.routine code.calls-lent·solve-first (solving-thm.met 𝓤 H 𝓜 𝓖 𝓡))
-    (cited 𝓤 H (Scatter true 12288 𝓤 H (𝓖 .A) (𝓜 .mem) (𝓡 .run)) 𝓜 𝓡 code.env #scatter scatter-def.routine code.calls-lent·scatter (scatter-thm.met 𝓤 H 𝓜 𝓖 𝓡)))
+    proved 𝓤 H 𝓜 𝓖 𝓡 f.ended stayed (clauses 𝓤 mostRows) code.env #own code.function (code.unfolded 𝓤 H 𝓜 𝓡) (goes 𝓤 H (𝓖 .A) W)
+    (walks 𝓤 H (𝓖 .A) (𝓜 .mem) (𝓡 .run) true mostRows W (lit< tt, lit< tt) (𝓣 .C) (𝓣 .Λ) (fmOf 𝓤 H (W .laws) 𝓣)
+    (cited 𝓤 H (Gather 𝓤 H (𝓖 .A) (𝓜 .mem) (𝓡 .run)) 𝓜 𝓡 code.env #gather gather-def.routine code.calls-lent·gather (gather-thm.met 𝓤 H 𝓜 𝓖 𝓡))
+    (cited 𝓤 H (Solving 𝓤 H (𝓖 .A) (𝓜 .mem) (𝓡 .run)) 𝓜 𝓡 code.env #solving solving-def.routine code.calls-lent·solve-first (solving-thm.met 𝓤 H 𝓜 𝓖 𝓡))
+    (cited 𝓤 H (Scatter 𝓤 H (𝓖 .A) (𝓜 .mem) (𝓡 .run)) 𝓜 𝓡 code.env #scatter scatter-def.routine code.calls-lent·scatter (scatter-thm.met 𝓤 H 𝓜 𝓖 𝓡)))
