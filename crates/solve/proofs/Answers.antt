@@ -1,7 +1,7 @@
 -- What the answers of the code's solve over one box say of the definitions: what it took, what it found and the rows that it left.
 use mathlib.Core.Path.{_≡_, refl, sym, ap, _∙_}
 use mathlib.Core.Bool.{Bool, true, false}
-use mathlib.Core.List.{List, _∷_}
+use mathlib.Core.List.{List, [], _∷_}
 use Prim.Native.Nat.{ℕ, _+_, _-_, _≤_, _<_}
 use native.Mathlib.Omega.{arith}
 use lib.Ieee.{Float}
@@ -18,9 +18,14 @@ use Rattle.solve.specs.declared.Round.{Round}
 use Rattle.solve.specs.declared.Round.the-variants.{Off, OnBox, Spent}
 use Rattle.solve.specs.Once.{prepared, widened, passes, saturated, onBox, Once, many, preparing, leaves, rounded, rounding}
 use Rattle.solve.specs.Solve.{rowsWithin}
-use Rattle.solve.proofs.RowsLeft.{rows-again, untouched, normalised-last}
+use Rattle.solve.proofs.RowsLeft.{untouched, normalised-last}
 
 -- ---- preparing
+
+rows-again : (rows : List Row) → rowsOf (flatOf rows) ≡ rows
+unfolding rowsOf flatOf
+rows-again [] = refl
+rows-again (r ∷ rows) = ap (λ l. r ∷ l) (rows-again rows)
 
 module _ (flat : List Float) {flat′ : List Float} where
   pub was-prepared : (p : Paid (List Row)) {l : ℕ} → prepared-is.Done l ≡ preparing p → flat′ ≡ leaves flat p → p ≡ paid (rowsOf flat′) l

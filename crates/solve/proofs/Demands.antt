@@ -1,34 +1,51 @@
--- The three demands, in the terms of the entries' contracts: `solve` gives back `solve T A flat` of the task T, the allowance A and the floats lent, and
--- `lp_2d_incre_max_y` gives back `lp2dIncreMaxY T flat`. That every entry returns for every input is that its contract has no `requires`.
-use mathlib.Core.Path.{_≡_, _∙_}
-use mathlib.Core.Logic.{_↔_, _≢_}
-use mathlib.Core.List.{List}
+-- The three demands, and what RULES says besides of an entry's answer, in the terms of the entries' contracts: `solve` gives back `solve T A flat` of the task T,
+-- the allowance A and the floats lent, and `lp_2d_incre_max_y` gives back `lp2dIncreMaxY T flat`. That every entry returns for every input is that its
+-- contract has no `requires`.
+use mathlib.Core.Path.{_≡_, ap, _∙_}
+use mathlib.Core.Logic.{_⊎_, _↔_, _≢_}
+use mathlib.Core.Bool.{Bool, true, false, _&&_}
+use mathlib.Core.List.{List, [], _∷_}
 use Prim.Native.Nat.{ℕ, _+_, _*_, _/_, _%_, _^_, _≤_, _<_}
+use native.Mathlib.Nat.{le-refl}
 use native.Mathlib.Omega.{arith}
 use lib.ListN.{length}
-use lib.Ieee.{Float}
-use Rattle.rows.specs.Constants.{mostRows}
+use lib.Ieee.{Float, nan, inf, isNan}
+use Rattle.float.specs.Operators.{_⊘_, _≺_, _≻_}
+use Rattle.float.specs.Float.{abs}
+use Rattle.rows.specs.Constants.{epsZero, mostRows}
 use Rattle.rows.specs.Rows.{rowsOf, flatOf}
 use Rattle.rows.proofs.Lengths.{length-rowsOf}
 use Rattle.line.specs.declared.Slot.the-variants.{Holds}
 use Rattle.line.specs.declared.Active.{Active}
+use Rattle.line.specs.Active.{noRows}
+use Rattle.step.specs.declared.State.{State}
+use Rattle.step.specs.declared.Found.the-variants.{Done}
+use Rattle.solve.specs.declared.Normalize.the-variants.{Off}
 use Rattle.solve.specs.declared.Task.{Task}
 use Rattle.solve.specs.declared.Answer.{Answer}
+use Rattle.solve.specs.declared.Answer.the-variants.{Point, Level, Across, Nothing}
 use Rattle.solve.specs.declared.Outcome.the-variants.{Answered, Stopped, Refused}
-use Rattle.solve.specs.Solve.{allSolves, count, rowsWithin, refusalOf, solve, lp2dIncreMaxY, number}
+use Rattle.solve.specs.Once.{Once}
+use Rattle.solve.specs.Solve.{allSolves, count, rowsWithin, answer, Ended, refusalOf, solve, lp2dIncreMaxY, number, values}
 use Rattle.solve.proofs.Refusals as refusals
 use Rattle.solve.proofs.Allowance as allowance
 use Rattle.solve.proofs.Count as counting
+use Rattle.solve.proofs.Constants.{Constants, constants-hold}
 use Rattle.solve.proofs.Examples.{All, examples, examples-hold}
 use Rattle.solve.proofs.Named as named
+use Rattle.solve.proofs.RowsLeft as left
+use Rattle.solve.proofs.Values as of-answers
 
 module _ (T : Task) (flat : List Float) where
-  -- how many rows are lent, and how many readings a solve of them takes
+  -- how many rows are lent, the solves that they come to, and how many readings these take
   abbrev lent : ℕ
   lent = length flat / 3
 
+  abbrev solves : List Once
+  solves = allSolves T (rowsOf flat)
+
   abbrev taken : ℕ
-  taken = count (allSolves T (rowsOf flat))
+  taken = count solves
 
   -- ---- 1. "Every entry answers for every input: any floats, any skip, any lengths." "Refusals are numbered; each says what it returns and what it leaves."
 
@@ -72,11 +89,19 @@ module _ (T : Task) (flat : List Float) where
     pub second-is-there : {i : ℕ} → act .second ≡ Holds i → i < lent
     second-is-there = named.second-is-there T A flat e
 
+    -- what an answer has of x and y is a number
+    pub has-numbers : of-answers.Numbers a
+    has-numbers = of-answers.has-numbers T A flat e
+
     -- ---- 2. "Answers, lent rows and active rows equal the Rust's": those of the definition are the Rust's, operation by operation. An answer does not
     -- depend on the allowance, and is that of the source's own entry.
 
     pub whatever-allowance : solve T A flat ≡ lp2dIncreMaxY T flat
     whatever-allowance = allowance.solve-finishes T flat A (allowance.keeps-within T flat A e .1)
+
+    -- so a larger allowance never alters it
+    pub larger-allowance : (more : ℕ) → A ≤ more → solve T more flat ≡ solve T A flat
+    larger-allowance more h = allowance.solve-larger-allowance T flat A more h e
 
     -- ---- 3. "and reports exactly that count"
 
@@ -91,18 +116,76 @@ module _ (T : Task) (flat : List Float) where
     pub count-few : lent ≤ 1 → n ≡ lent
     count-few few = reports-count ∙ counting.count-few T (rowsOf flat) (rw length-rowsOf few) ∙ length-rowsOf flat
 
-  -- "Given an allowance it stops unfinished exactly when its count without one exceeds it": it gives back the allowance as its count, no active rows, and the rows as after the last
-  -- normalisation whose readings all fitted
+  -- "Given an allowance it stops unfinished exactly when its count without one exceeds it": it gives back the allowance as its count, no active rows, and
+  -- the rows as after the last normalisation whose readings all fitted
   pub stops-exactly : (A : ℕ) → number (solve T A flat .outcome) ≡ 3 ↔ (refusalOf T flat ≡ 0) × (A < taken)
   stops-exactly = allowance.solve-three-exactly T flat
 
-  pub stops : (A : ℕ) → refusalOf T flat ≡ 0 → A < taken → solve T A flat ≡ record { outcome = Stopped 3 A; rows = flatOf (rowsWithin A (rowsOf flat) (allSolves T (rowsOf flat))) }
+  pub stops : (A : ℕ) → refusalOf T flat ≡ 0 → A < taken
+      → solve T A flat ≡ record { outcome = Stopped 3 A; rows = flatOf (rowsWithin A (rowsOf flat) solves) }
   stops = allowance.solve-stops T flat
+
+  pub last-normalised : (A : ℕ) → refusalOf T flat ≡ 0 → A < taken
+      → (j : ℕ) × (solve T A flat .rows ≡ flatOf (left.normalisedBy j (rowsOf flat) solves)) × left.LastToFit A solves j
+  last-normalised A fits above =
+      let last = left.last-normalised A (rowsOf flat) solves in
+      (last .0, ap (λ (e : Ended (List Float)). e .rows) (stops A fits above) ∙ ap flatOf (last .1), last .2)
 
   -- "otherwise answer, rows and active rows are those of demand 2"
   pub finishes : (A : ℕ) → taken ≤ A → solve T A flat ≡ lp2dIncreMaxY T flat
   finishes = allowance.solve-finishes T flat
 
--- the worked examples
+  -- ---- RULES 4: with normalising off the rows are as they were lent, whatever comes back
+
+  pub as-lent : T .normalize ≡ Off → (A : ℕ) → solve T A flat .rows ≡ flat
+  as-lent off A = left.solve-as-lent T off A flat
+
+  pub as-lent-alike : T .normalize ≡ Off → lp2dIncreMaxY T flat .rows ≡ flat
+  as-lent-alike off = rw (← finishes taken (le-refl taken)) (as-lent off taken)
+
+-- ---- RULES 9. "An answer is one of four: point with x and y, level with y alone (x is NaN), across with x alone, nothing (both NaN). Infinite numbers are
+-- numbers here."
+
+module _ (s : State) where
+  abbrev x : Float
+  x = s .at .x
+
+  abbrev y : Float
+  y = s .at .y
+
+  pub four-answers :
+      (isNan x ≡ false → isNan y ≡ false → answer (Done s) ≡ Point x y)
+      × (isNan x ≡ true → isNan y ≡ false → answer (Done s) ≡ Level y)
+      × (isNan x ≡ false → isNan y ≡ true → answer (Done s) ≡ Across x)
+      × (isNan x ≡ true → isNan y ≡ true → answer (Done s) ≡ Nothing)
+  four-answers = of-answers.four-answers s
+
+  pub infinite-numbers : {minus : Bool} → (x ≡ inf minus) ⊎ (y ≡ inf minus) → answer (Done s) ≢ Nothing
+  infinite-numbers = of-answers.infinite-numbers s
+
+-- "0 or 1 row: one row with |a| < 1e-9 and b > 1e-9 gives (NaN, c/b); all else (NaN, NaN). Nothing is normalised."
+
+module _ (T : Task) where
+  pub no-row : lp2dIncreMaxY T [] ≡ record { outcome = Answered Nothing noRows 0; rows = [] }
+  no-row = of-answers.no-row T
+
+  module _ (a b c : Float) where
+    pub one-row-level : abs a ≺ epsZero ≡ true → b ≻ epsZero ≡ true
+        → (bounds : Answer)
+        × (lp2dIncreMaxY T (a ∷ b ∷ c ∷ []) ≡ record { outcome = Answered bounds noRows 1; rows = a ∷ b ∷ c ∷ [] })
+        × (values bounds ≡ record { x = nan; y = c ⊘ b })
+    one-row-level = of-answers.one-row-level T a b c
+
+    pub one-row-nothing : abs a ≺ epsZero && b ≻ epsZero ≡ false
+        → lp2dIncreMaxY T (a ∷ b ∷ c ∷ []) ≡ record { outcome = Answered Nothing noRows 1; rows = a ∷ b ∷ c ∷ [] }
+    one-row-nothing = of-answers.one-row-nothing T a b c
+
+-- ---- RULES 3: the constants
+
+pub constants : Constants
+constants = constants-hold
+
+-- ---- RULES 13: the worked examples
+
 pub worked : All examples
 worked = examples-hold

@@ -1,8 +1,10 @@
+pub mod Constants
 pub mod Examples
 pub mod Rules
 pub mod Refusals
 pub mod Allowance
 pub mod RowsLeft
+pub mod Outcomes
 pub mod Values
 pub mod Named
 pub mod Lengths

@@ -24,9 +24,9 @@ use Rattle.solve.specs.declared.Round.{Round}
 use Rattle.solve.specs.declared.Round.the-variants.{Off, OnBox, Spent}
 use Rattle.solve.specs.declared.Outcome.{Outcome}
 use Rattle.solve.specs.declared.Outcome.the-variants.{Answered, Stopped}
-use Rattle.solve.specs.Once.{Once, prepared, many, leaves, rounding}
+use Rattle.solve.specs.Once.{Once, prepared, many, once, leaves, rounding}
 use Rattle.solve.specs.Solve.{solves, allSolves, count, rowsWithin, answer, activeRows, Ended, answered, finished, allowed}
-use Rattle.solve.proofs.RowsLeft.{once-many, normalised-on}
+use Rattle.solve.proofs.RowsLeft.{normalised-on}
 use Rattle.solve.proofs.Answers.{Ran, Told, told}
 
 -- ---- some solves, with `left` readings left of the allowance A
@@ -68,6 +68,12 @@ module _ (A : ℕ) where
             ends-answered left rows (o ∷ p ∷ os) (omega (arith, r .takes)) ∙ rw (taken, r .keeps) (sym (ends-answered l kept (p ∷ os) within))
 
 -- ---- the solves of a task
+
+once-many : (T : Task) (rows : List Row) (bound : Float) → 2 ≤ length rows → once T rows bound ≡ many T rows bound
+unfolding once
+once-many T [] bound two = absurd (omega arith)
+once-many T (r ∷ []) bound two = absurd (omega arith)
+once-many T (r ∷ s ∷ rows) bound two = refl
 
 module _ (T : Task) (A : ℕ) where
   -- k solves still to go
