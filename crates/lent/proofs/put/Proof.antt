@@ -22,7 +22,6 @@ use types.Part.{whole, sub, look-in}
 use types.Run.{look, store-raw, init, unit-lit, stop, hop, fld, from, load, lit, of-opd, bin, assigns, returns, enter, alloc1, alloc0, params1, pass1, pass0}
 use denote.RattleType.{RattleType, owns}
 use denote.Laws.{Is, shows}
-use denote.Memory.{mem}
 use denote.Plain.{uint-vals, uint-tells}
 use denote.Builtin.{usize}
 use denote.Ref.{RefT, now}
