@@ -3,15 +3,12 @@
 use mathlib.Core.Path.{_≡_, refl, sym, ap, _∙_}
 use mathlib.Core.Logic.{_↔_, _≢_}
 use mathlib.Core.List.{List, [], _∷_}
-use Prim.Native.Nat.{ℕ, _/_, _%_, _≤_, _<_}
+use Prim.Native.Nat.{ℕ, _≤_, _<_}
 use native.Mathlib.Nat.{lt-of-not-le}
 use native.Mathlib.Omega.{arith}
 use borrow.Author.Tests.{lt-ltb, le-ltb, eq-eqb, ne-eqb}
-use lib.Dec.{ltb}
-use lib.ListN.{length}
 use lib.Ieee.{Float}
 use Rattle.float.specs.Operators.{if_then_else_}
-use Rattle.readings.proofs.Gives.{either}
 use Rattle.rows.specs.declared.Row.{Row}
 use Rattle.rows.specs.Rows.{rowsOf, flatOf}
 use Rattle.line.specs.declared.Active.{Active}
@@ -19,7 +16,8 @@ use Rattle.solve.specs.declared.Task.{Task}
 use Rattle.solve.specs.declared.Answer.{Answer}
 use Rattle.solve.specs.declared.Outcome.the-variants.{Answered, Stopped, Refused}
 use Rattle.solve.specs.Once.{Once}
-use Rattle.solve.specs.Solve.{solves, allSolves, count, rowsWithin, answer, activeRows, Ended, answered, finished, allowed, refusalOf, taken, solve, lp2dIncreMaxY, number}
+use Rattle.solve.specs.Solve.{solves, allSolves, count, rowsWithin, answer, activeRows, Ended, answered, finished, allowed}
+use Rattle.solve.specs.Solve.{refusalOf, taken, solve, lp2dIncreMaxY, number}
 use Rattle.solve.proofs.Refusals.{no-other}
 
 -- ---- over rows
@@ -32,7 +30,7 @@ last-answers n rows o (p ∷ os) = last-answers n (o .rows .value) p os
 
 module _ (T : Task) (rows : List Row) where
   -- without an allowance there is always an answer, with the count of all the solves
-  pub finished-answers : (a : Answer) × (act : Active) × (finished T rows .outcome ≡ Answered a act (count (allSolves T rows)))
+  finished-answers : (a : Answer) × (act : Active) × (finished T rows .outcome ≡ Answered a act (count (allSolves T rows)))
   unfolding finished allSolves solves
   finished-answers = last-answers (count (allSolves T rows)) rows _ _
 
@@ -53,10 +51,10 @@ module _ (T : Task) (rows : List Row) where
   above-where-refused A refused = lt-of-not-le (λ within. refused (rw (finishes A within, finished-answers .2)))
 
   -- refusal 3 is given exactly above the allowance, and refusal 4 never
-  pub three-exactly : (A : ℕ) → number (allowed T A rows .outcome) ≡ 3 ↔ A < count (allSolves T rows)
+  three-exactly : (A : ℕ) → number (allowed T A rows .outcome) ≡ 3 ↔ A < count (allSolves T rows)
   three-exactly A = (λ three. above-where-refused A (omega arith), number-above A)
 
-  pub never-four : (A : ℕ) → number (allowed T A rows .outcome) ≢ 4
+  never-four : (A : ℕ) → number (allowed T A rows .outcome) ≢ 4
   never-four A four = omega (arith, number-above A (above-where-refused A (omega arith)))
 
 -- ---- over flat floats
@@ -79,7 +77,8 @@ module _ (T : Task) (flat : List Float) where
   unfolding lp2dIncreMaxY
   lp2dIncreMaxY-refuses = refuses T (finished T) flat
 
-  pub lp2dIncreMaxY-answers : refusalOf T flat ≡ 0 → (a : Answer) × (act : Active) × (lp2dIncreMaxY T flat .outcome ≡ Answered a act (count (allSolves T (rowsOf flat))))
+  pub lp2dIncreMaxY-answers : refusalOf T flat ≡ 0
+      → (a : Answer) × (act : Active) × (lp2dIncreMaxY T flat .outcome ≡ Answered a act (count (allSolves T (rowsOf flat))))
   unfolding lp2dIncreMaxY
   lp2dIncreMaxY-answers fits = rw (takes T (finished T) flat fits) (finished-answers T (rowsOf flat))
 
@@ -124,15 +123,20 @@ module _ (T : Task) (flat : List Float) where
 
   pub solve-three-exactly : (A : ℕ) → number (solve T A flat .outcome) ≡ 3 ↔ (refusalOf T flat ≡ 0) × (A < count (allSolves T (rowsOf flat)))
   solve-three-exactly A = (
-    λ three. let fits = taken-where A (omega arith) (omega arith) in (fits, three-exactly T (rowsOf flat) A .0 (sym (ap number (outcome-where-taken A fits)) ∙ three)),
+    λ three.
+        let fits = taken-where A (omega arith) (omega arith) in
+        (fits, three-exactly T (rowsOf flat) A .0 (sym (ap number (outcome-where-taken A fits)) ∙ three)),
     λ both. ap number (outcome-where-taken A (both .0)) ∙ three-exactly T (rowsOf flat) A .1 (both .1),
   )
 
   pub solve-never-four : (A : ℕ) → number (solve T A flat .outcome) ≢ 4
-  solve-never-four A four = let fits = taken-where A (omega arith) (omega arith) in never-four T (rowsOf flat) A (sym (ap number (outcome-where-taken A fits)) ∙ four)
+  solve-never-four A four =
+      let fits = taken-where A (omega arith) (omega arith) in
+      never-four T (rowsOf flat) A (sym (ap number (outcome-where-taken A fits)) ∙ four)
 
   -- an answer keeps within the allowance
-  pub keeps-within : (A : ℕ) {a : Answer} {act : Active} {n : ℕ} → solve T A flat .outcome ≡ Answered a act n → (refusalOf T flat ≡ 0) × (count (allSolves T (rowsOf flat)) ≤ A)
+  pub keeps-within : (A : ℕ) {a : Answer} {act : Active} {n : ℕ} → solve T A flat .outcome ≡ Answered a act n
+      → (refusalOf T flat ≡ 0) × (count (allSolves T (rowsOf flat)) ≤ A)
   unfolding number
   keeps-within A e =
       let fits = taken-where A (omega (arith, ap number e)) (omega (arith, ap number e)) in
@@ -140,7 +144,8 @@ module _ (T : Task) (flat : List Float) where
       (fits, omega arith)
 
   -- so it is the same under any larger one
-  pub solve-larger-allowance : (A A′ : ℕ) → A ≤ A′ → {a : Answer} {act : Active} {n : ℕ} → solve T A flat .outcome ≡ Answered a act n → solve T A′ flat ≡ solve T A flat
+  pub solve-larger-allowance : (A A′ : ℕ) → A ≤ A′ → {a : Answer} {act : Active} {n : ℕ} → solve T A flat .outcome ≡ Answered a act n
+      → solve T A′ flat ≡ solve T A flat
   solve-larger-allowance A A′ h e = let within = keeps-within A e .1 in solve-finishes A′ (omega arith) ∙ sym (solve-finishes A within)
 
   -- and reports the count of all the solves
@@ -148,5 +153,6 @@ module _ (T : Task) (flat : List Float) where
   solve-reports A {a} {act} {n} e =
       let within = keeps-within A e in
       let without = lp2dIncreMaxY-answers (within .0) in
-      let same : Answered a act n ≡ Answered (without .0) (without .1) (count (allSolves T (rowsOf flat))) = sym e ∙ ap (λ (x : Ended (List Float)). x .outcome) (solve-finishes A (within .1)) ∙ without .2 in
+      let finished = ap (λ (x : Ended (List Float)). x .outcome) (solve-finishes A (within .1)) ∙ without .2 in
+      let same : Answered a act n ≡ Answered (without .0) (without .1) (count (allSolves T (rowsOf flat))) = sym e ∙ finished in
       cc

@@ -13,6 +13,7 @@ use Rattle.rows.specs.Rows.{rowsOf, flatOf, rowAt, normalized}
 use Rattle.rows.proofs.Lengths.{length-rowsOf}
 use Rattle.rows.proofs.Written.{flat-rows}
 use Rattle.line.specs.Active.{noRows}
+use Rattle.step.specs.declared.Frame.{Frame}
 use Rattle.step.specs.declared.State.{State}
 use Rattle.step.specs.declared.Found.{Found}
 use Rattle.step.specs.declared.Found.the-variants.{Failed, Done}
@@ -42,10 +43,13 @@ module _ (left n : ℕ) (flat : List Float) (even : 3 * n ≡ length flat) where
   normalises-unpaid short = (rw (all, reading-stops, reading-stops), rw (all, reading-stops))
 
 module _ (T : Task) (R : List Row) (bound : Float) (left : ℕ) where
+  abbrev F : Frame
+  F = frame bound (T .tol .feasibility) (T .tol .scale)
+
   -- the forward pass
   abbrev advancing : Paid Found
   advancing =
-      within left (forward (T .tol .scale) R (frame bound (T .tol .feasibility) (T .tol .scale)) (drop (T .start .skip) R) (T .start .skip) (record { at = begun (T .start) bound; active = noRows }))
+      within left (forward (T .tol .scale) R F (drop (T .start .skip) R) (T .start .skip) (record { at = begun (T .start) bound; active = noRows }))
 
   pub passes-spent : advancing ≡ stopped → within left (passes T R bound) ≡ stopped
   unfolding passes _>>?_
@@ -55,7 +59,7 @@ module _ (T : Task) (R : List Row) (bound : Float) (left : ℕ) where
   unfolding passes _>>?_ onward
   passes-failed {l} e = goes-on left _ _ e ∙ within-pure l Failed
 
-  pub passes-go-on : {s : State} {l : ℕ} → advancing ≡ paid (Done s) l → within left (passes T R bound) ≡ within l (deferred 4 R (frame bound (T .tol .feasibility) (T .tol .scale)) s)
+  pub passes-go-on : {s : State} {l : ℕ} → advancing ≡ paid (Done s) l → within left (passes T R bound) ≡ within l (deferred 4 R F s)
   unfolding passes _>>?_ onward
   passes-go-on e = goes-on left _ _ e
 
@@ -71,7 +75,8 @@ module _ (T : Task) (A : ℕ) where
   one-stopped (r ∷ []) one spent = stops T (r ∷ []) A (omega arith) ∙ rw spent
   one-stopped (r ∷ s ∷ rows) one spent = absurd (omega arith)
 
-  pub one-answered : (rows : List Row) → length rows ≡ 1 → 0 < A → allowed T A rows ≡ record { outcome = Answered (answer (lone (rowAt rows 0))) (activeRows (lone (rowAt rows 0))) 1; rows = rows }
+  pub one-answered : (rows : List Row) → length rows ≡ 1 → 0 < A
+      → let found = lone (rowAt rows 0) in allowed T A rows ≡ record { outcome = Answered (answer found) (activeRows found) 1; rows = rows }
   unfolding finished answered allSolves solves once count rowAt pure read _>>_ if_then_else_
   one-answered [] one some = absurd (omega arith)
   one-answered (r ∷ []) one some = finishes T (r ∷ []) A (omega arith)

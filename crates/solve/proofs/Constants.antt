@@ -3,7 +3,8 @@ use mathlib.Core.Path.{_≡_, refl}
 use mathlib.Core.Bool.{false}
 use Prim.Native.Nat.{ℕ, _^_}
 use lib.Ieee.{Float, binary64, round, ofBits}
-use Rattle.rows.specs.Constants.{epsZero, epsNormalize, epsRounding, ccwErrboundA, lpBound, lpBoxGrowth, lpBoxGrowthSteps, half, maxDeferredRounds, repairTolScale, mostRows}
+use Rattle.rows.specs.Constants.{epsZero, epsNormalize, epsRounding, ccwErrboundA, half, repairTolScale}
+use Rattle.rows.specs.Constants.{lpBound, lpBoxGrowth, lpBoxGrowthSteps, maxDeferredRounds, mostRows}
 
 -- the float nearest to p / q
 abbrev float : ℕ → ℕ → Float

@@ -1,5 +1,5 @@
--- The three demands, and what RULES says besides of an entry's answer, in the terms of the entries' contracts: `solve` gives back `solve T A flat` of the task T,
--- the allowance A and the floats lent, and `lp_2d_incre_max_y` gives back `lp2dIncreMaxY T flat`. That every entry returns for every input is that its
+-- The three demands, and what RULES says besides of answers and constants, in the terms of the entries' contracts: `solve` gives back `solve T A flat` of the
+-- task T, the allowance A and the floats lent, and `lp_2d_incre_max_y` gives back `lp2dIncreMaxY T flat`. That an entry returns for every input is that its
 -- contract has no `requires`.
 use mathlib.Core.Path.{_≡_, ap, _∙_}
 use mathlib.Core.Logic.{_⊎_, _↔_, _≢_}

@@ -1,5 +1,5 @@
--- Worked examples of the definitions: one table under one statement, which is proved by computing every line. S1 to F1 are document 01's
--- own; M1 and M2 show two mistakes that those do not.
+-- Worked examples of the definitions: one table under one statement, which is proved by computing every line. S1 to F1 are those of
+-- RULES 13; M1 and M2 show two mistakes that those do not.
 use mathlib.Core.Path.{_≡_, refl}
 use mathlib.Core.Bool.{Bool, true, false}
 use mathlib.Core.List.{List, [], _∷_}
@@ -14,7 +14,8 @@ use Rattle.rows.specs.Constants.{epsZero, epsNormalize, epsRounding, ccwErrboun
 use Rattle.rows.specs.declared.Row.{Row}
 use Rattle.rows.specs.declared.Crossing.{Crossing}
 use Rattle.rows.specs.declared.Crossing.the-variants as crossing-is
-use Rattle.rows.specs.Rows.{zeros, rowsOf, flatOf, rowAt, refusal, residual, weight, noBoundary, normalizedBy, normalizedRow, normalized, determinant, singular, crossing}
+use Rattle.rows.specs.Rows.{zeros, rowsOf, flatOf, rowAt, refusal, residual, weight, noBoundary}
+use Rattle.rows.specs.Rows.{normalizedBy, normalizedRow, normalized, determinant, singular, crossing}
 use Rattle.line.specs.declared.Slot.{Slot}
 use Rattle.line.specs.declared.Slot.the-variants.{NoRow, Holds}
 use Rattle.line.specs.declared.Bounds.{Bounds}
@@ -48,6 +49,9 @@ num n = round binary64 false n 1
 
 abbrev -num : ℕ → Float
 -num n = round binary64 true n 1
+
+abbrev at : ℕ → ℕ → Crossing
+at x y = crossing-is.At (record { x = f64 x; y = f64 y })
 
 abbrev rowOf : Float → Float → Float → Row
 rowOf a b c = record { a = a; b = b; c = c }
@@ -111,7 +115,7 @@ examples =
     solving (from (num 999999)) 1000 rows₅ (Point zero (f64 0x412e_847e_0000_0000)) NoRow NoRow 8 ∷
     normalizing (rowOf (num 3) (num 4) (num 10) ∷ []) (rowOf (f64 0x3fe3_3333_3333_3334) (f64 0x3fe9_9999_9999_999a) (f64 0x4000_0000_0000_0000) ∷ []) ∷  -- N1
     normalizing (rowOf (num 0) (num 0) (-num 5) ∷ rowOf (num (10 ^ 200)) (num 0) (num 1) ∷ []) (zeros ∷ zeros ∷ []) ∷  -- N2
-    crossing-of (rowOf (num 1) (num 2) (num 5)) (rowOf (num 3) (num 4) (num 6)) (crossing-is.At (record { x = f64 0xc010_0000_0000_0000; y = f64 0x4012_0000_0000_0000 })) ∷  -- D1
+    crossing-of (rowOf (num 1) (num 2) (num 5)) (rowOf (num 3) (num 4) (num 6)) (at 0xc010_0000_0000_0000 0x4012_0000_0000_0000) ∷  -- D1
     crossing-of (rowOf (num 1) (num 2) (num 5)) (rowOf (num 2) (num 4) (num 6)) (crossing-is.Refused 5) ∷  -- D2
     bounding true (num 1 ∷ num 5 ∷ -num 1 ∷ -num 2 ∷ []) (Between (f64 0x4014_0000_0000_0000) (f64 0x4000_0000_0000_0000)) ∷  -- L1
     bounding true (num 1 ∷ num 1 ∷ -num 1 ∷ -num 2 ∷ []) (Between nan nan) ∷  -- L2
@@ -124,10 +128,13 @@ examples =
 
 pub examples-hold : All examples
 unfolding
-    if_then_else_ zero one abs finite min max clamp root rootUnits wholeRoot fused product pure read _>>=_ _>>_ epsZero epsNormalize epsRounding ccwErrboundA lpBound lpBoxGrowth half repairTolScale
-    zeros rowsOf flatOf rowAt refusal residual weight noBoundary normalizedBy normalizedRow normalized determinant singular crossing noRows setFirst setSecond wholeLine void coefficientIsZero narrow
-    meeting lp1dCore onY onX onLine pairsOf lp1d onward _>>?_ steepEnd steepStep uncrossed chosen flatEnd flatStep step every meets notAbove works firstThatWorks bounded cut interval
-    everywhere middle attempts inside project onBoundary alone factors together oneSupports twoSupport supportedBy supports orderedBy ordered plausible tested qualified candidate better
-    judge turn rebuild seedOf floorOf unmoved rebuilt onBoundaries recover violated frame secondTry repair afterTrial pivot forward excess worst none deferred prepared widened begun
-    passes saturated onBox lone many once solves allSolves count rowsWithin answer activeRows answered finished allowed refusalOf taken solve round neg add sub mul div lt le eq isNan ofBits
-examples-hold = (refl, (refl, (refl, (refl, (refl, (refl, (refl, (refl, (refl, (refl, (refl, (refl, (refl, (refl, (refl, (refl, (refl, (refl, (refl, tt)))))))))))))))))))
+    if_then_else_ zero one abs finite min max clamp root rootUnits wholeRoot fused product pure read _>>=_ _>>_ epsZero epsNormalize epsRounding
+    ccwErrboundA lpBound lpBoxGrowth half repairTolScale zeros rowsOf flatOf rowAt refusal residual weight noBoundary normalizedBy normalizedRow
+    normalized determinant singular crossing noRows setFirst setSecond wholeLine void coefficientIsZero narrow meeting lp1dCore onY onX onLine pairsOf
+    lp1d onward _>>?_ steepEnd steepStep uncrossed chosen flatEnd flatStep step every meets notAbove works firstThatWorks bounded cut interval
+    everywhere middle attempts inside project onBoundary alone factors together oneSupports twoSupport supportedBy supports orderedBy ordered
+    plausible tested qualified candidate better judge turn rebuild seedOf floorOf unmoved rebuilt onBoundaries recover violated frame secondTry repair
+    afterTrial pivot forward excess worst none deferred prepared widened begun passes saturated onBox lone many once solves allSolves count rowsWithin
+    answer activeRows answered finished allowed refusalOf taken solve round neg add sub mul div lt le eq isNan ofBits
+examples-hold =
+    (refl, (refl, (refl, (refl, (refl, (refl, (refl, (refl, (refl, (refl, (refl, (refl, (refl, (refl, (refl, (refl, (refl, (refl, (refl, tt)))))))))))))))))))

@@ -7,6 +7,7 @@ use lib.ListN.{length, drop, length-drop}
 use lib.Ieee.{Float}
 use Rattle.readings.proofs.Gives.{_gives_, either, pure-gives, read-gives}
 use Rattle.rows.specs.declared.Row.{Row}
+use Rattle.rows.specs.Rows.{rowsOf}
 use Rattle.rows.proofs.Lengths.{length-rowsOf}
 use Rattle.line.specs.declared.Slot.the-variants.{Holds}
 use Rattle.line.specs.declared.Active.{Active}
@@ -28,13 +29,18 @@ use Rattle.passes.proofs.Named.{forward-below, deferred-below}
 passes-below : (n : ℕ) (T : Task) (R : List Row) (bound : Float) → length R ≤ n → passes T R bound gives FoundBelow n
 unfolding passes
 passes-below n T R bound few =
-    bind?-below (forward-below n R few _ _ (drop (T .start .skip) R) (T .start .skip) _ (simp length-drop (omega arith)) noRows-below) (λ s. deferred-below n _ R _ s few)
+    bind?-below
+    (forward-below n R few _ _ (drop (T .start .skip) R) (T .start .skip) _ (simp length-drop (omega arith)) noRows-below)
+    (λ s. deferred-below n _ R _ s few)
 
 once-below : (n : ℕ) (T : Task) (rows : List Row) (bound : Float) → length rows ≤ n → once T rows bound .run gives FoundBelow n
 unfolding once many lone
 once-below n T [] bound few = pure-gives Failed tt
 once-below n T (r ∷ []) bound few = read-gives 1 (pure-gives _ (either (FoundBelow n) _ noRows-below tt))
 once-below n T (r ∷ s ∷ rows) bound few = passes-below n T _ _ (omega (arith, length-prepared (T .normalize) (r ∷ s ∷ rows)))
+
+once-keeps : (n : ℕ) (T : Task) (rows : List Row) (bound : Float) → length rows ≤ n → length (once T rows bound .rows .value) ≤ n
+once-keeps n T rows bound few = omega (arith, length-once T rows bound)
 
 once-names : (n : ℕ) (T : Task) (rows : List Row) (bound : Float) → length rows ≤ n → BothBelow n (activeRows (once T rows bound .run .value))
 unfolding activeRows
@@ -52,8 +58,8 @@ module _ (T : Task) (A : ℕ) (flat : List Float) {a : Answer} {act : Active} {n
 
   both-are-there : BothBelow lent act
   both-are-there =
-      answer-has T (λ a act. BothBelow lent act) (λ rows. length rows ≤ lent) (λ rows bound few. omega (arith, length-once T rows bound)) (once-names lent T) A flat
-      (omega (arith, length-rowsOf flat)) e
+      let few : length (rowsOf flat) ≤ lent = omega (arith, length-rowsOf flat) in
+      answer-has T (λ a act. BothBelow lent act) (λ rows. length rows ≤ lent) (once-keeps lent T) (once-names lent T) A flat few e
 
   pub first-is-there : {i : ℕ} → act .first ≡ Holds i → i < lent
   first-is-there named = rw named at (both-are-there .first)

@@ -45,7 +45,7 @@ module _ (A : ℕ) where
     ends-answered within = rw (le-ltb left (count os) within)
 
   -- the first of them came to its end
-  module _ {left : ℕ} (enough : left ≤ A) (rows : List Row) {o : Once} {kept : List Row} {found : Found} {l : ℕ} {on : Bool} (r : Ran left o kept found l on) where
+  module _ {left l : ℕ} (enough : left ≤ A) (rows : List Row) {o : Once} {kept : List Row} {found : Found} {on : Bool} (r : Ran left o kept found l on) where
     first-answers : ending left rows (o ∷ []) ≡ record { outcome = Answered (answer found) (activeRows found) (A - l); rows = kept }
     unfolding count answered
     first-answers =
@@ -85,15 +85,18 @@ module _ (T : Task) (A : ℕ) where
   from-all rows = let taken : A - A + count (solves 7 T rows lpBound) ≡ count (solves 7 T rows lpBound) = omega arith in rw taken
 
   module _ (k left : ℕ) (rows : List Row) (bound : Float) (two : 2 ≤ length rows) where
+    abbrev first : Once
+    first = many T rows bound
+
     -- too few are left for the first
-    first-stops : {kept : List Row} → (left < many T rows bound .rows .readings + many T rows bound .run .readings) × ((os : List Once) → rowsWithin left rows (many T rows bound ∷ os) ≡ kept)
+    first-stops : {kept : List Row} → (left < first .rows .readings + first .run .readings) × ((os : List Once) → rowsWithin left rows (first ∷ os) ≡ kept)
         → from (suc k) left rows bound ≡ record { outcome = Stopped 3 A; rows = kept }
     unfolding from solves count
-    first-stops s = rw (once-many T rows bound two) (ends-stopped A left rows (many T rows bound ∷ _) (omega (arith, s .0)) ∙ rw (s .1 _))
+    first-stops s = rw (once-many T rows bound two) (ends-stopped A left rows (first ∷ _) (omega (arith, s .0)) ∙ rw (s .1 _))
 
     -- the first ends, and those after it follow where it sits on its box
-    first-ends : {kept : List Row} {found : Found} {l : ℕ} {on : Bool} → Ran left (many T rows bound) kept found l on
-        → from (suc k) left rows bound ≡ ending A left rows (many T rows bound ∷ (if on then solves k T kept (bound ⊗ lpBoxGrowth) else []))
+    first-ends : {kept : List Row} {found : Found} {l : ℕ} {on : Bool} → Ran left first kept found l on
+        → from (suc k) left rows bound ≡ ending A left rows (first ∷ (if on then solves k T kept (bound ⊗ lpBoxGrowth) else []))
     unfolding from solves
     first-ends r = rw (once-many T rows bound two, r .sits, r .keeps)
 
@@ -107,7 +110,9 @@ pub record Going (T : Task) (A n : ℕ) (rows₀ : List Row) (flat : List Float)
   pub again : mode ≡ T .normalize
   pub rest : from T A (suc (6 - k)) left (rowsOf flat) bound ≡ allowed T A rows₀
 
-module _ {T : Task} {A n : ℕ} (two : 2 ≤ n) {rows₀ : List Row} {flat flat′ : List Float} {mode : Normalize} {bound : Float} {left k : ℕ} (g : Going T A n rows₀ flat mode bound left k) (lent : flat′ ≡ leaves flat (within left (prepared mode (rowsOf flat)))) (same : length flat′ ≡ length flat) where
+module _ {T : Task} {A n : ℕ} (two : 2 ≤ n) {rows₀ : List Row} {flat flat′ : List Float} {mode : Normalize} {bound : Float} {left k : ℕ}
+    (g : Going T A n rows₀ flat mode bound left k)
+    (lent : flat′ ≡ leaves flat (within left (prepared mode (rowsOf flat)))) (same : length flat′ ≡ length flat) where
   more : 2 ≤ length (rowsOf flat)
   more = omega (arith, length-rowsOf flat, g .even)
 

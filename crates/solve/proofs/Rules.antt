@@ -1,4 +1,4 @@
--- What document 01 says of a warm start, and of a solve that fails, as facts of the definitions.
+-- What RULES 5 and 6 say of a warm start, and of a solve that fails, as facts of the definitions.
 use mathlib.Core.Path.{_≡_, refl}
 use mathlib.Core.Bool.{true, _&&_, _||_}
 use mathlib.Core.List.{List}
@@ -27,7 +27,8 @@ skips-all scale R F skip s h = rw (drop-of-length-le R {i = skip} h)
 
 module _ (start : WarmStart) (bound : Float) where
   -- a finite start outside the box sets the box to 1e3 times its larger coordinate in absolute value
-  pub outside-widens : finite (start .x) && finite (start .y) && (abs (start .x) ≻ bound || abs (start .y) ≻ bound) ≡ true → widened start bound ≡ lpBoxGrowth ⊗ max (abs (start .x)) (abs (start .y))
+  pub outside-widens : finite (start .x) && finite (start .y) && (abs (start .x) ≻ bound || abs (start .y) ≻ bound) ≡ true
+      → widened start bound ≡ lpBoxGrowth ⊗ max (abs (start .x)) (abs (start .y))
   unfolding widened if_then_else_
   outside-widens h = rw h
 

@@ -89,7 +89,8 @@ answer-numbers (Done s) = by-tests (isNan (s .at .x)) (isNan (s .at .y)) refl re
     by-tests true true p q = rw (four-answers s .3 p q) tt
 
 pub has-numbers : (T : Task) (A : ℕ) {a : Answer} {act : Active} {n : ℕ} (flat : List Float) → solve T A flat .outcome ≡ Answered a act n → Numbers a
-has-numbers T A flat = answer-has T (λ a act. Numbers a) (λ rows. Unit {0}) (λ rows bound i. tt) (λ rows bound i. answer-numbers (once T rows bound .run .value)) A flat tt
+has-numbers T A flat =
+    answer-has T (λ a act. Numbers a) (λ rows. Unit {0}) (λ rows bound i. tt) (λ rows bound i. answer-numbers (once T rows bound .run .value)) A flat tt
 
 -- ---- no row, and one
 

@@ -12,6 +12,7 @@ use Rattle.rows.specs.declared.Row.{Row}
 use Rattle.rows.specs.declared.Point.{Point}
 use Rattle.rows.specs.Rows.{flatOf, normalized}
 use Rattle.line.specs.Active.{noRows}
+use Rattle.step.specs.declared.State.{State}
 use Rattle.step.specs.declared.Found.{Found}
 use Rattle.step.specs.declared.Found.the-variants.{Failed, Done}
 use Rattle.step.specs.Step.{_>>?_}
@@ -44,7 +45,8 @@ begun start bound = record { x = start .x; y = if start .y ≈ lpBound && bound 
 unfoldable pub passes : Task → List Row → Float → Counted Found
 passes T R bound =
     let F = frame bound (T .tol .feasibility) (T .tol .scale) in
-    forward (T .tol .scale) R F (drop (T .start .skip) R) (T .start .skip) (record { at = begun (T .start) bound; active = noRows }) >>? deferred maxDeferredRounds R F
+    let start : State = record { at = begun (T .start) bound; active = noRows } in
+    forward (T .tol .scale) R F (drop (T .start .skip) R) (T .start .skip) start >>? deferred maxDeferredRounds R F
 
 -- the answer sits on the box
 unfoldable pub saturated : Point → Float → Bool

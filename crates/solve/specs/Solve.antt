@@ -1,6 +1,5 @@
 -- `lp_2d_incre_max_y_core` and the entries above it, with refusals 1 to 4. Assumes nothing.
 use Prim.Native.Nat.{ℕ, zero, suc, _+_, _-_}
-use mathlib.Core.Bool.{not}
 use mathlib.Core.List.{List, [], _∷_}
 use lib.Dec.{ltb, eqb}
 use lib.ListN.{length}

@@ -39,7 +39,8 @@ returns c =
     let advanced = c .before .before in
     let begins = advanced .before in
     let a = begins .before .before .before .before .before .before .args in
-    let e = rw (begins .no-rows .ensures, begins .before .begun .ensures, begins .before .before .frame .ensures) at (sym (c .enum-told .given .1) ∙ advanced .forward .ensures) in
+    let said = sym (c .enum-told .given .1) ∙ advanced .forward .ensures in
+    let e = rw (begins .no-rows .ensures, begins .before .begun .ensures, begins .before .before .frame .ensures) at said in
     rw (passes-spent (a .task) (rowsOf (now (a .rows))) (a .bound) (a .left) (was-spent _ e))
 
 returns-2 : tie.Need-returns-2
@@ -48,7 +49,8 @@ returns-2 c =
     let advanced = c .before .before .before in
     let begins = advanced .before in
     let a = begins .before .before .before .before .before .before .args in
-    let e = rw (begins .no-rows .ensures, begins .before .begun .ensures, begins .before .before .frame .ensures) at (sym (c .before .got .given .1) ∙ advanced .forward .ensures) in
+    let said = sym (c .before .got .given .1) ∙ advanced .forward .ensures in
+    let e = rw (begins .no-rows .ensures, begins .before .begun .ensures, begins .before .before .frame .ensures) at said in
     rw (passes-failed (a .task) (rowsOf (now (a .rows))) (a .bound) (a .left) (was-failed _ e))
 
 returns-3 : tie.Need-returns-3
@@ -56,7 +58,8 @@ returns-3 c =
     let advanced = c .before .before .before .before in
     let begins = advanced .before in
     let a = begins .before .before .before .before .before .before .args in
-    let e = rw (begins .no-rows .ensures, begins .before .begun .ensures, begins .before .before .frame .ensures) at (sym (c .before .before .got2 .given .1) ∙ advanced .forward .ensures) in
+    let said = sym (c .before .before .got2 .given .1) ∙ advanced .forward .ensures in
+    let e = rw (begins .no-rows .ensures, begins .before .begun .ensures, begins .before .before .frame .ensures) at said in
     rw (passes-go-on (a .task) (rowsOf (now (a .rows))) (a .bound) (a .left) (was-done _ e), ← begins .before .before .frame .ensures) (c .deferred .ensures)
 
 pub both-passes-spec : {M : Type 1} → statement M

@@ -20,7 +20,8 @@ returns : tie.Need-returns
 unfolding lone if_then_else_ epsZero
 returns c =
     let level = c .before .before .before in
-    rw (← level .before .before .before .abs .ensures, level .before .before .if1 .taken, level .if2 .taken, ← c .before .before .nan .ensures, ← c .no-rows .ensures)
+    let tested = level .before .before in
+    rw (← tested .before .abs .ensures, tested .if1 .taken, level .if2 .taken, ← c .before .before .nan .ensures, ← c .no-rows .ensures)
 
 returns-2 : tie.Need-returns-2
 unfolding lone if_then_else_ epsZero

@@ -35,7 +35,8 @@ returns : tie.Need-returns Inv-loop μ-loop
 returns c =
     let round = c .before .before .before .before in
     let l = round .before .before .before .loop in
-    turn (omega arith) (l .inv) (round .solve-once .ensures .1) (omega arith) (sym (c .enum-told .given .1) ∙ round .solve-once .ensures .0)
+    let said = sym (c .enum-told .given .1) ∙ round .solve-once .ensures .0 in
+    turn (omega arith) (l .inv) (round .solve-once .ensures .1) (omega arith) said
 
 enum-known-got : tie.Need-enum-known-got Inv-loop μ-loop
 enum-known-got c = search needs
@@ -44,7 +45,8 @@ sub-answered : tie.Need-sub-answered Inv-loop μ-loop
 sub-answered c =
     let round = c .before .before .before .before .before in
     let l = round .before .before .before .loop in
-    omega (arith, turn (omega arith) (l .inv) (round .solve-once .ensures .1) (omega arith) (sym (c .before .got .given .1) ∙ round .solve-once .ensures .0) .0)
+    let said = sym (c .before .got .given .1) ∙ round .solve-once .ensures .0 in
+    omega (arith, turn (omega arith) (l .inv) (round .solve-once .ensures .1) (omega arith) said .0)
 
 answered-requires : tie.Need-answered-requires Inv-loop μ-loop
 answered-requires c κs = search needs
@@ -56,7 +58,8 @@ returns-2 : tie.Need-returns-2 Inv-loop μ-loop
 returns-2 c =
     let round = c .before .before .before .before .before .before in
     let l = round .before .before .before .loop in
-    let e = turn (omega arith) (l .inv) (round .solve-once .ensures .1) (omega arith) (sym (c .before .before .got .given .1) ∙ round .solve-once .ensures .0) .1 in
+    let said = sym (c .before .before .got .given .1) ∙ round .solve-once .ensures .0 in
+    let e = turn (omega arith) (l .inv) (round .solve-once .ensures .1) (omega arith) said .1 in
     (c .answered .ensures ∙ e .0, e .1)
 
 enum-known-got-2 : tie.Need-enum-known-got-2 Inv-loop μ-loop
@@ -66,7 +69,8 @@ sub-answered-2 : tie.Need-sub-answered-2 Inv-loop μ-loop
 sub-answered-2 c =
     let round = c .before .before .before .before .before .before in
     let l = round .before .before .before .loop in
-    omega (arith, turn (omega arith) (l .inv) (round .solve-once .ensures .1) (omega arith) (sym (c .before .before .got2 .given .1) ∙ round .solve-once .ensures .0) .0)
+    let said = sym (c .before .before .got2 .given .1) ∙ round .solve-once .ensures .0 in
+    omega (arith, turn (omega arith) (l .inv) (round .solve-once .ensures .1) (omega arith) said .0)
 
 answered-requires-2 : tie.Need-answered-requires-2 Inv-loop μ-loop
 answered-requires-2 c κs = search needs
@@ -78,7 +82,8 @@ returns-3 : tie.Need-returns-3 Inv-loop μ-loop
 returns-3 c =
     let round = c .before .before .before .before .before .before .before in
     let l = round .before .before .before .loop in
-    let e = turn (omega arith) (l .inv) (round .solve-once .ensures .1) (omega arith) (sym (c .before .before .before .got2 .given .1) ∙ round .solve-once .ensures .0) .1 (omega arith) in
+    let said = sym (c .before .before .before .got2 .given .1) ∙ round .solve-once .ensures .0 in
+    let e = turn (omega arith) (l .inv) (round .solve-once .ensures .1) (omega arith) said .1 (omega arith) in
     (c .answered2 .ensures ∙ e .0, e .1)
 
 add-k : tie.Need-add-k Inv-loop μ-loop
@@ -92,7 +97,8 @@ unfolding lpBoxGrowth
 loop-again c =
     let round = c .before .before .before .before .before .before in
     let l = round .before .before .before .loop in
-    turn (omega arith) (l .inv) (round .solve-once .ensures .1) (omega arith) (sym (c .before .before .got2 .given .1) ∙ round .solve-once .ensures .0) .2 (omega arith)
+    let said = sym (c .before .before .got2 .given .1) ∙ round .solve-once .ensures .0 in
+    turn (omega arith) (l .inv) (round .solve-once .ensures .1) (omega arith) said .2 (omega arith)
 
 sub-count : tie.Need-sub-count Inv-loop μ-loop
 sub-count c = search needs

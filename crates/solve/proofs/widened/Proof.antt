@@ -29,10 +29,11 @@ unfolding widened if_then_else_ lpBoxGrowth
 returns-2 c =
     let sizes = c .before .before in
     let tested = sizes .before .before in
-    let finite = not-false (tested .before .both-finite .result) (tested .if1 .left) in
+    let both = tested .before .both-finite in
+    let finite = not-false (both .result) (tested .if1 .left) in
     ⊎-elim
-    (λ w. rw (← tested .before .both-finite .ensures, finite, ← sizes .before .abs .ensures, ← sizes .abs2 .ensures, ← c .max .ensures, w .taken))
-    (λ w. rw (← tested .before .both-finite .ensures, finite, ← sizes .before .abs .ensures, ← sizes .abs2 .ensures, ← c .max .ensures, w .0 .left, w .1 .taken))
+    (λ w. rw (← both .ensures, finite, ← sizes .before .abs .ensures, ← sizes .abs2 .ensures, ← c .max .ensures, w .taken))
+    (λ w. rw (← both .ensures, finite, ← sizes .before .abs .ensures, ← sizes .abs2 .ensures, ← c .max .ensures, w .0 .left, w .1 .taken))
     (c .before .if2 .came)
 
 returns-3 : tie.Need-returns-3
@@ -40,7 +41,9 @@ unfolding widened if_then_else_
 returns-3 c =
     let sizes = c .before .before in
     let tested = sizes .before .before in
-    rw (← tested .before .both-finite .ensures, not-false (tested .before .both-finite .result) (tested .if1 .left), ← sizes .before .abs .ensures, ← sizes .abs2 .ensures, c .before .if2 .left, c .if3 .left)
+    let both = tested .before .both-finite in
+    let finite = not-false (both .result) (tested .if1 .left) in
+    rw (← both .ensures, finite, ← sizes .before .abs .ensures, ← sizes .abs2 .ensures, c .before .if2 .left, c .if3 .left)
 
 pub widened-spec : {M : Type 1} → statement M
 widened-spec =
