@@ -74,7 +74,8 @@ turn R F upto seed floor i r best = (if noBoundary r then pure Failed else candi
 unfoldable pub rebuild : List Row → Frame → ℕ → Point → Float → List Row → ℕ → Found → Counted Found
 rebuild R F upto seed floor [] i best = pure best
 rebuild R F upto seed floor (r ∷ rs) i best =
-    turn R F upto seed floor i r best >>= λ t. elim t as (λ _. Counted Found) [ On found ↦ rebuild R F upto seed floor rs (i + 1) found | Won s ↦ pure (Done s) ]
+    turn R F upto seed floor i r best >>= λ t.
+    elim t as (λ _. Counted Found) [ On found ↦ rebuild R F upto seed floor rs (i + 1) found | Won s ↦ pure (Done s) ]
 
 -- what the code gives back
 unfoldable pub turned : Paid Turn → Turned
