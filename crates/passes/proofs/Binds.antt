@@ -19,7 +19,7 @@ unfolding pure _>>=_
 pure-last m = ap (λ k. record { value = m .value; readings = k }) (add-zero (m .readings))
 
 module _ {A B C : Type 0} where
-  pub grouped : (m : Counted A) (f : A → Counted B) (g : B → Counted C) → (m >>= f >>= g) ≡ (m >>= λ a. f a >>= g)
+  grouped : (m : Counted A) (f : A → Counted B) (g : B → Counted C) → (m >>= f >>= g) ≡ (m >>= λ a. f a >>= g)
   unfolding _>>=_
   grouped m f g = ap (λ k. record { value = g (f (m .value) .value) .value; readings = k }) (add-assoc (m .readings) _ _)
 

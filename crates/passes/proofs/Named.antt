@@ -62,7 +62,7 @@ module _ (n : ℕ) (R : List Row) (few : length R ≤ n) (F : Frame) where
 
 -- ---- the deferred rounds
 
-abbrev pub WorstBelow : ℕ → Worst → Type 0
+abbrev WorstBelow : ℕ → Worst → Type 0
 WorstBelow n w = Below n (w .row)
 
 pub worst-below : {n : ℕ} (ε : Float) (p : Point) (rows : List Row) (i : ℕ) (w : Worst) → i + length rows ≤ n → WorstBelow n w

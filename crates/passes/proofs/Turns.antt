@@ -27,7 +27,7 @@ use Rattle.passes.proofs.Onward as onward-laws
 use Rattle.passes.proofs.Attempts.{Attempt, first-attempt}
 
 -- a trial where the residual is at most the tolerance, and none where it is not
-abbrev pub trying : List Row → Frame → Row → ℕ → State → Counted Found
+abbrev trying : List Row → Frame → Row → ℕ → State → Counted Found
 trying R F r i s = if residual r (s .at) ≼ F .epsilon then step R F i i s else pure (found-is.Done s)
 
 by-trial : (scale : Float) (R : List Row) (F : Frame) (r : Row) (i : ℕ) (s : State) → pivot scale R F r i s ≡ (trying R F r i s >>= afterTrial scale R F i s)

@@ -32,7 +32,7 @@ module _ (n : ℕ) where
   orderedBy-below NoRow second h k = record { first = k; second = tt }
   orderedBy-below (Holds i) second h k = record { first = h; second = k }
 
-  pub ordered-below : {act : Active} → BothBelow n act → BothBelow n (ordered act)
+  ordered-below : {act : Active} → BothBelow n act → BothBelow n (ordered act)
   unfolding ordered
   ordered-below below = orderedBy-below _ _ (below .first) (below .second)
 
