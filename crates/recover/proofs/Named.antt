@@ -63,6 +63,8 @@ recovering-below flat upto p F coll below =
     either (RecoveredBelow upto) _ tt (either (RecoveredBelow upto) _ tt
     (recovered-below upto coll _ (recover-below upto _ below (rowsOf flat) F upto (rw length-take (omega arith)) .has)))
 
+-- Where the rows that the caller's own collector holds lie below the prefix, so do those that the entry gives back. It is not so of every collector: a
+-- point that recovery keeps as it was keeps the caller's rows with it, whatever they are.
 pub both-are-there : (flat : List Float) (upto : ℕ) (p : Point) (F : Frame) (act : Active) → BothBelow upto act
     → {q : Point} {act′ : Active} → recovering flat upto p F (On act) ≡ recovered-is.At q (On act′) → BothBelow upto act′
 unfolding held
