@@ -27,11 +27,13 @@ next R F upto s last found-is.Failed = if last then pure found-is.Failed else re
 next R F upto s last (found-is.Done t) = pure (found-is.Done t)
 
 -- the frame `aim` is next, `rest` readings are left, and with these the attempts and the pass after them give `whole`
-pub record Attempt (R : List Row) (F : Frame) (upto : ℕ) (s : State) (onwards : State → Counted Found) (rest : ℕ) (last : Bool) (aim : Frame) (whole : Paid Found) : Type 0 where
+pub record Attempt (R : List Row) (F : Frame) (upto : ℕ) (s : State) (onwards : State → Counted Found)
+    (rest : ℕ) (last : Bool) (aim : Frame) (whole : Paid Found) : Type 0 where
   gives : within rest (recover R aim upto s >>= next R F upto s last >>? onwards) ≡ whole
 
 module _ {R : List Row} {F : Frame} {upto : ℕ} {s : State} {onwards : State → Counted Found} {rest : ℕ} {whole : Paid Found} where
-  pub first-attempt : (scale : Float) {aim : Frame} → within rest (repair scale R F upto s >>? onwards) ≡ whole → aim ≡ frame (F .bound) (F .epsilon ⊗ repairTolScale) scale
+  pub first-attempt : (scale : Float) {aim : Frame} → within rest (repair scale R F upto s >>? onwards) ≡ whole
+      → aim ≡ frame (F .bound) (F .epsilon ⊗ repairTolScale) scale
       → Attempt R F upto s onwards rest (aim .epsilon ≈ F .epsilon) aim whole
   unfolding repair secondTry next frame
   first-attempt scale e aims = record { gives = rw aims (ap (λ m. within rest (m >>? onwards)) (alike (recover R _ upto s) _ _ by-cases) ∙ e) }
@@ -40,7 +42,8 @@ module _ {R : List Row} {F : Frame} {upto : ℕ} {s : State} {onwards : State �
       by-cases found-is.Failed = refl
       by-cases (found-is.Done t) = refl
 
-  module _ {last : Bool} {aim : Frame} (attempt : Attempt R F upto s onwards rest last aim whole) {got : Stepped} (gave : got ≡ stepped (within rest (recover R aim upto s))) where
+  module _ {last : Bool} {aim : Frame} (attempt : Attempt R F upto s onwards rest last aim whole)
+      {got : Stepped} (gave : got ≡ stepped (within rest (recover R aim upto s))) where
     pub attempt-stops : got ≡ Spent → Spent ≡ stepped whole
     unfolding _>>?_ stepped
     attempt-stops e = ap stepped (sym (goes-no-further rest _ _ (goes-no-further rest _ _ (was-spent _ (sym e ∙ gave)))) ∙ attempt .gives)
@@ -60,8 +63,11 @@ module _ {R : List Row} {F : Frame} {upto : ℕ} {s : State} {onwards : State �
 
       pub attempt-again : last ≡ false → Attempt R F upto s onwards k true F whole
       unfolding next if_then_else_
-      attempt-again h = record { gives = ap (λ m. within k (m >>? onwards)) (alike (recover R F upto s) (next R F upto s true) pure by-cases ∙ pure-last (recover R F upto s)) ∙ (rw h at after-failure) }
+      attempt-again h = record { gives = ap (λ m. within k (m >>? onwards)) no-more ∙ (rw h at after-failure) }
         where
           by-cases : (found : Found) → next R F upto s true found ≡ pure found
           by-cases found-is.Failed = refl
           by-cases (found-is.Done t) = refl
+
+          no-more : (recover R F upto s >>= next R F upto s true) ≡ recover R F upto s
+          no-more = alike (recover R F upto s) (next R F upto s true) pure by-cases ∙ pure-last (recover R F upto s)

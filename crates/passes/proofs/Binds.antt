@@ -19,12 +19,13 @@ unfolding pure _>>=_
 pure-last m = ap (λ k. record { value = m .value; readings = k }) (add-zero (m .readings))
 
 module _ {A B C : Type 0} where
-  pub grouped : (m : Counted A) (f : A → Counted B) (g : B → Counted C) → (m >>= f >>= g) ≡ (m >>= λ a. f a >>= g)
+  grouped : (m : Counted A) (f : A → Counted B) (g : B → Counted C) → (m >>= f >>= g) ≡ (m >>= λ a. f a >>= g)
   unfolding _>>=_
   grouped m f g = ap (λ k. record { value = g (f (m .value) .value) .value; readings = k }) (add-assoc (m .readings) _ _)
 
   -- how a caller goes on by the first of three
-  pub goes-through : (l : ℕ) (m : Counted A) (f : A → Counted B) (g : B → Counted C) {a : A} {k : ℕ} → within l m ≡ paid a k → within l (m >>= f >>= g) ≡ within k (f a >>= g)
+  pub goes-through : (l : ℕ) (m : Counted A) (f : A → Counted B) (g : B → Counted C) {a : A} {k : ℕ}
+      → within l m ≡ paid a k → within l (m >>= f >>= g) ≡ within k (f a >>= g)
   goes-through l m f g e = ap (within l) (grouped m f g) ∙ goes-on l m (λ a. f a >>= g) e
 
 pub read-grouped : {A B : Type 0} (n : ℕ) (m : Counted A) (f : A → Counted B) → (read n >> m >>= f) ≡ (read n >> (m >>= f))

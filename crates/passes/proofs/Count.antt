@@ -104,4 +104,6 @@ module _ (R : List Row) (F : Frame) where
   unfolding deferred
   deferred-takes zero s = pure-takes _
   deferred-takes (suc k) s =
-      wider (bind-takes (worst-takes _ _ R 0 _) (λ w. slot-cases (w .row) (pure-takes _) (λ i. bind?-takes (all-rows-takes i s) (deferred-takes k)))) (omega arith)
+      wider
+      (bind-takes (worst-takes _ _ R 0 _) (λ w. slot-cases (w .row) (pure-takes _) (λ i. bind?-takes (all-rows-takes i s) (deferred-takes k))))
+      (omega arith)

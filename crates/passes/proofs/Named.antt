@@ -51,23 +51,28 @@ module _ (n : ℕ) (R : List Row) (few : length R ≤ n) (F : Frame) where
     unfolding pivot
     pivot-below scale r i h = if-gives _ (any-gives _ (λ found. afterTrial-below scale i found h)) (pinned-below i i h)
 
-  pub forward-below : (scale : Float) (rows : List Row) (i : ℕ) (s : State) → length rows ≤ n - i → StateBelow n s → forward scale R F rows i s gives FoundBelow n
+  pub forward-below : (scale : Float) (rows : List Row) (i : ℕ) (s : State) → length rows ≤ n - i → StateBelow n s
+      → forward scale R F rows i s gives FoundBelow n
   unfolding forward
   forward-below scale [] i s h below = pure-gives _ below
   forward-below scale (r ∷ rows) i s h below =
-      bind?-below (read-gives 1 (if-gives _ (pivot-below s below scale r i (omega arith)) (pure-gives _ below))) (λ s′. forward-below scale rows (i + 1) s′ (omega arith))
+      bind?-below
+      (read-gives 1 (if-gives _ (pivot-below s below scale r i (omega arith)) (pure-gives _ below)))
+      (λ s′. forward-below scale rows (i + 1) s′ (omega arith))
 
 -- ---- the deferred rounds
 
-abbrev pub WorstBelow : ℕ → Worst → Type 0
+abbrev WorstBelow : ℕ → Worst → Type 0
 WorstBelow n w = Below n (w .row)
 
-pub worst-below : {n : ℕ} (ε : Float) (p : Point) (rows : List Row) (i : ℕ) (w : Worst) → i + length rows ≤ n → WorstBelow n w → worst ε p rows i w gives WorstBelow n
+pub worst-below : {n : ℕ} (ε : Float) (p : Point) (rows : List Row) (i : ℕ) (w : Worst) → i + length rows ≤ n → WorstBelow n w
+    → worst ε p rows i w gives WorstBelow n
 unfolding worst
 worst-below ε p [] i w h below = pure-gives w below
 worst-below {n} ε p (r ∷ rows) i w h below = read-gives 1 (worst-below ε p rows (i + 1) _ (omega arith) (either (WorstBelow n) _ (omega arith) below))
 
-slot-cases : {n : ℕ} (slot : Slot) {m : Counted Found} {f : ℕ → Counted Found} → Below n slot → m gives FoundBelow n → ((i : ℕ) → i < n → f i gives FoundBelow n)
+slot-cases : {n : ℕ} (slot : Slot) {m : Counted Found} {f : ℕ → Counted Found}
+    → Below n slot → m gives FoundBelow n → ((i : ℕ) → i < n → f i gives FoundBelow n)
     → _gives_ {A = Found} (elim slot [ NoRow ↦ m | Holds i ↦ f i ]) (FoundBelow n)
 slot-cases NoRow below h k = h
 slot-cases (Holds i) below h k = k i below
@@ -77,4 +82,5 @@ unfolding deferred none
 deferred-below n zero R F s few below = pure-gives _ below
 deferred-below n (suc k) R F s few below =
     bind-gives (worst-below _ _ R 0 _ (omega arith) tt)
-    (λ w named. slot-cases (w .row) named (pure-gives _ below) (λ i h. bind?-below (pinned-below n R few F s below (length R) i h) (λ s′. deferred-below n k R F s′ few)))
+    (λ w named. slot-cases (w .row) named (pure-gives _ below)
+    (λ i h. bind?-below (pinned-below n R few F s below (length R) i h) (λ s′. deferred-below n k R F s′ few)))

@@ -37,7 +37,10 @@ unfolding excess
 excess-not-positive ε r p h =
     let both = neither (residual r p ≻ zero) (not (zero ≼ ε)) h in
     difference-not-positive (residual r p) _ (both .0)
-    (⊎-elim (λ e. rw e (not-above zero ε (not-false (zero ≼ ε) (both .1)))) (λ e. rw e (rounding-not-negative r p)) (max-picks .one-of-two ε (epsRounding ⊗ weight r p)))
+    (⊎-elim
+    (λ e. rw e (not-above zero ε (not-false (zero ≼ ε) (both .1))))
+    (λ e. rw e (rounding-not-negative r p))
+    (max-picks .one-of-two ε (epsRounding ⊗ weight r p)))
 
 -- ---- the scan
 

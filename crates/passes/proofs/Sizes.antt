@@ -15,7 +15,9 @@ module _ (r : Row) (p : Point) where
   weight-not-negative : lt (weight r p) zero ≡ false
   unfolding weight
   weight-not-negative =
-      sum-not-negative (abs (r .a ⊗ p .x) ⊕ abs (r .b ⊗ p .y)) (abs (r .c)) (sum-not-negative (abs (r .a ⊗ p .x)) (abs (r .b ⊗ p .y)) (abs-not-negative _) (abs-not-negative _)) (abs-not-negative _)
+      sum-not-negative (abs (r .a ⊗ p .x) ⊕ abs (r .b ⊗ p .y)) (abs (r .c))
+      (sum-not-negative (abs (r .a ⊗ p .x)) (abs (r .b ⊗ p .y)) (abs-not-negative _) (abs-not-negative _))
+      (abs-not-negative _)
 
   pub rounding-not-negative : lt (epsRounding ⊗ weight r p) zero ≡ false
   unfolding epsRounding zero lt ofBits

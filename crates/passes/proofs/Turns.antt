@@ -27,14 +27,15 @@ use Rattle.passes.proofs.Onward as onward-laws
 use Rattle.passes.proofs.Attempts.{Attempt, first-attempt}
 
 -- a trial where the residual is at most the tolerance, and none where it is not
-abbrev pub trying : List Row → Frame → Row → ℕ → State → Counted Found
+abbrev trying : List Row → Frame → Row → ℕ → State → Counted Found
 trying R F r i s = if residual r (s .at) ≼ F .epsilon then step R F i i s else pure (found-is.Done s)
 
 by-trial : (scale : Float) (R : List Row) (F : Frame) (r : Row) (i : ℕ) (s : State) → pivot scale R F r i s ≡ (trying R F r i s >>= afterTrial scale R F i s)
 unfolding pivot afterTrial if_then_else_
 by-trial scale R F r i s = by-test (residual r (s .at) ≼ F .epsilon)
   where
-    by-test : (b : Bool) → (if b then step R F i i s >>= afterTrial scale R F i s else step R F i i s) ≡ ((if b then step R F i i s else pure (found-is.Done s)) >>= afterTrial scale R F i s)
+    by-test : (b : Bool) → (if b then step R F i i s >>= afterTrial scale R F i s else step R F i i s)
+        ≡ ((if b then step R F i i s else pure (found-is.Done s)) >>= afterTrial scale R F i s)
     by-test true = refl
     by-test false = sym (pure-first (found-is.Done s) (afterTrial scale R F i s))
 
@@ -56,7 +57,11 @@ module _ {scale : Float} {F : Frame} {flat : List Float} {n i rest : ℕ} {s : S
     abbrev row : Row
     row = rowAt (rowsOf flat) i
 
-    opened : within rest (read 1 >> ((if violated row (s .at) then pivot scale (rowsOf flat) F row i s else pure (found-is.Done s)) >>? after scale F flat i)) ≡ whole
+    -- row i, once its reading is paid for, and the pass after it
+    abbrev from-here : Counted Found
+    from-here = (if violated row (s .at) then pivot scale (rowsOf flat) F row i s else pure (found-is.Done s)) >>? after scale F flat i
+
+    opened : within rest (read 1 >> from-here) ≡ whole
     unfolding forward _>>?_
     opened = ap (within rest) (sym (read-grouped 1 _ (onward (after scale F flat i)))) ∙ (rw (next-of-all flat n i (turn .all) inside) at (turn .gives))
 
@@ -65,12 +70,15 @@ module _ {scale : Float} {F : Frame} {flat : List Float} {n i rest : ℕ} {s : S
     stops e = ap stepped (sym (reading-stops rest 1 _ (omega arith)) ∙ opened)
 
     module _ (some : 0 < rest) where
-      paid-for : within (rest - 1) ((if violated row (s .at) then pivot scale (rowsOf flat) F row i s else pure (found-is.Done s)) >>? after scale F flat i) ≡ whole
+      paid-for : within (rest - 1) from-here ≡ whole
       paid-for = sym (reading-fits rest 1 _ (omega arith)) ∙ opened
 
       pub keeps : violated row (s .at) ≡ false → Turn scale F flat n (i + 1) (rest - 1) s whole
       unfolding if_then_else_ _>>?_ onward
-      keeps e = record { all = turn .all; gives = ap (within (rest - 1)) (sym (pure-first (found-is.Done s) (onward (after scale F flat i)))) ∙ (rw e at paid-for) }
+      keeps e = record {
+        all = turn .all;
+        gives = ap (within (rest - 1)) (sym (pure-first (found-is.Done s) (onward (after scale F flat i)))) ∙ (rw e at paid-for);
+      }
 
       module _ (e : violated row (s .at) ≡ true) {got : Stepped} (gave : got ≡ stepped (within (rest - 1) (trying (rowsOf flat) F row i s))) where
         to-trial : within (rest - 1) (trying (rowsOf flat) F row i s >>= afterTrial scale (rowsOf flat) F i s >>= onward (after scale F flat i)) ≡ whole

@@ -11,7 +11,7 @@ use Rattle.project.specs.declared.Projected.{Projected}
 use Rattle.project.specs.declared.Projected.the-variants as projected-is
 use Rattle.project.specs.Project.{spanned, projected}
 
-abbrev pub spanTold : Spanned → Paid Cut
+abbrev spanTold : Spanned → Paid Cut
 spanTold (spanned-is.Keep v left) = paid (Keep v) left
 spanTold (spanned-is.Empty left) = paid Empty left
 spanTold spanned-is.Spent = stopped

@@ -21,7 +21,8 @@ use Rattle.project.specs.declared.Projected.the-variants as projected-is
 use Rattle.project.specs.Project.{works, interval, everywhere, inside, project, spanned, projected}
 use Rattle.project.proofs.Answers.{span-tells}
 
-module _ (R : List Row) (upto : ℕ) (p : Point) (ε : Float) (left : ℕ) {own : Scan} (tried : own ≡ scanned (within left (works ε (p .y) (take upto R) (p .x)))) where
+module _ (R : List Row) (upto : ℕ) (p : Point) (ε : Float) (left : ℕ)
+    {own : Scan} (tried : own ≡ scanned (within left (works ε (p .y) (take upto R) (p .x)))) where
   pub own-spent : own ≡ Spent → projected-is.Spent ≡ projected (within left (project R upto p ε))
   unfolding project projected
   own-spent e = ap projected (sym (goes-no-further left _ _ (tells _ tried e)))
@@ -43,5 +44,6 @@ module _ (R : List Row) (upto : ℕ) (p : Point) (ε : Float) (left : ℕ) {own 
     unfolding inside projected
     span-empty e = ap projected (sym (moved ∙ goes-on rest _ _ (span-tells _ found e) ∙ within-pure _ _))
 
-    pub span-kept : {v : Interval} {after : ℕ} → span ≡ spanned-is.Keep v after → projected (within after (inside ε (p .y) (take upto R) (p .x) (Keep v))) ≡ projected (within left (project R upto p ε))
+    pub span-kept : {v : Interval} {after : ℕ} → span ≡ spanned-is.Keep v after
+        → projected (within after (inside ε (p .y) (take upto R) (p .x) (Keep v))) ≡ projected (within left (project R upto p ε))
     span-kept e = ap projected (sym (moved ∙ goes-on rest _ _ (span-tells _ found e)))

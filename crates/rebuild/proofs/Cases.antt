@@ -70,7 +70,8 @@ module _ (R : List Row) (F : Frame) (upto : ℕ) (seed : Point) (floor : Float) 
 
   -- ---- a candidate, after the step's answer
 
-  module _ (left : ℕ) {none : Active} (fresh : none ≡ noRows) {answer : Stepped} (stepping : answer ≡ stepped (within left (step R F upto i (record { at = seed; active = none })))) where
+  module _ (left : ℕ) {none : Active} (fresh : none ≡ noRows)
+      {answer : Stepped} (stepping : answer ≡ stepped (within left (step R F upto i (record { at = seed; active = none })))) where
     pinning : answer ≡ stepped (within left (step R F upto i (record { at = seed; active = noRows })))
     pinning = rw fresh at stepping
 
@@ -92,7 +93,8 @@ module _ (R : List Row) (F : Frame) (upto : ℕ) (seed : Point) (floor : Float) 
         unfolding qualified stepped if_then_else_
         try-implausible d = sym (ap stepped (within-pure l found-is.Failed)) ∙ (rw (← test, d) at pinned)
 
-        pub try-tested : ok ≡ true → {act : Active} → act ≡ ordered (s .active) → stepped (within l (tested R F upto i (record { at = s .at; active = act }))) ≡ stepped (trying left)
+        pub try-tested : ok ≡ true → {act : Active} → act ≡ ordered (s .active)
+            → stepped (within l (tested R F upto i (record { at = s .at; active = act }))) ≡ stepped (trying left)
         unfolding qualified if_then_else_
         try-tested d order = rw order (rw (← test, d) at pinned)
 

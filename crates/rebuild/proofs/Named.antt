@@ -32,7 +32,7 @@ module _ (n : ℕ) where
   orderedBy-below NoRow second h k = record { first = k; second = tt }
   orderedBy-below (Holds i) second h k = record { first = h; second = k }
 
-  pub ordered-below : {act : Active} → BothBelow n act → BothBelow n (ordered act)
+  ordered-below : {act : Active} → BothBelow n act → BothBelow n (ordered act)
   unfolding ordered
   ordered-below below = orderedBy-below _ _ (below .first) (below .second)
 
@@ -64,9 +64,12 @@ module _ (n : ℕ) where
 
     turn-below : (i : ℕ) (r : Row) (best : Found) → i < n → FoundBelow n best → turn R F upto seed floor i r best gives TurnBelow n
     unfolding turn
-    turn-below i r best h below = bind-gives (if-gives _ (pure-gives Failed tt) (candidate-below i r h)) (λ found below′. pure-gives _ (judge-below _ best found below below′))
+    turn-below i r best h below =
+        bind-gives (if-gives _ (pure-gives Failed tt) (candidate-below i r h)) (λ found below′. pure-gives _ (judge-below _ best found below below′))
 
-    pub rebuild-below : (rows : List Row) (i : ℕ) (best : Found) → i + length rows ≤ n → FoundBelow n best → rebuild R F upto seed floor rows i best gives FoundBelow n
+    pub rebuild-below : (rows : List Row) (i : ℕ) (best : Found) → i + length rows ≤ n → FoundBelow n best
+        → rebuild R F upto seed floor rows i best gives FoundBelow n
     unfolding rebuild
     rebuild-below [] i best h below = pure-gives _ below
-    rebuild-below (r ∷ rows) i best h below = bind-gives (turn-below i r best (omega arith) below) (λ t below′. turn-cases t below′ (λ found. rebuild-below rows (i + 1) found (omega arith)))
+    rebuild-below (r ∷ rows) i best h below =
+        bind-gives (turn-below i r best (omega arith) below) (λ t below′. turn-cases t below′ (λ found. rebuild-below rows (i + 1) found (omega arith)))

@@ -24,7 +24,8 @@ use Rattle.rebuild.proofs.Answers.{tells}
 pub record Searching (s : List Float) (F : Frame) (upto : ℕ) (seed : Point) (floor : Float) (i rest : ℕ) (best : Found) (whole : Paid Found) : Type 0 where
   pub gives : within rest (rebuild (rowsOf s) F upto seed floor (drop i (take upto (rowsOf s))) i best) ≡ whole
 
-module _ {s : List Float} {F : Frame} {upto : ℕ} {seed : Point} {floor : Float} {i rest : ℕ} {best : Found} {whole : Paid Found} (here : Searching s F upto seed floor i rest best whole) where
+module _ {s : List Float} {F : Frame} {upto : ℕ} {seed : Point} {floor : Float} {i rest : ℕ} {best : Found} {whole : Paid Found}
+    (here : Searching s F upto seed floor i rest best whole) where
   pub search-ends : upto ≤ i → stepped (paid best rest) ≡ stepped whole
   unfolding rebuild
   search-ends h = ap stepped (sym (within-pure rest best) ∙ (rw (no-more s upto i h) at (here .gives)))

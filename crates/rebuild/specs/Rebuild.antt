@@ -1,6 +1,6 @@
 -- `rebuild_2d_prefix`: another boundary. What a candidate must meet stands apart from the search for the best. Assumes nothing.
 use Prim.Native.Nat.{ℕ, _+_}
-use mathlib.Core.Bool.{Bool, true, false, not, _&&_}
+use mathlib.Core.Bool.{Bool, not, _&&_}
 use mathlib.Core.List.{List, [], _∷_}
 use lib.ListN.{take}
 use lib.Ieee.{Float}
@@ -74,7 +74,8 @@ turn R F upto seed floor i r best = (if noBoundary r then pure Failed else candi
 unfoldable pub rebuild : List Row → Frame → ℕ → Point → Float → List Row → ℕ → Found → Counted Found
 rebuild R F upto seed floor [] i best = pure best
 rebuild R F upto seed floor (r ∷ rs) i best =
-    turn R F upto seed floor i r best >>= λ t. elim t as (λ _. Counted Found) [ On found ↦ rebuild R F upto seed floor rs (i + 1) found | Won s ↦ pure (Done s) ]
+    turn R F upto seed floor i r best >>= λ t.
+    elim t as (λ _. Counted Found) [ On found ↦ rebuild R F upto seed floor rs (i + 1) found | Won s ↦ pure (Done s) ]
 
 -- what the code gives back
 unfoldable pub turned : Paid Turn → Turned

@@ -1,6 +1,6 @@
 -- `active_basis_supports_max_y`: the active rows hold the point up. Assumes nothing.
 use Prim.Native.Nat.{ℕ}
-use mathlib.Core.Bool.{Bool, true, false, not, _&&_, _||_}
+use mathlib.Core.Bool.{Bool, false, not, _&&_, _||_}
 use mathlib.Core.List.{List}
 use lib.Dec.{eqb}
 use lib.Ieee.{Float, neg}
@@ -34,7 +34,8 @@ unfoldable pub oneSupports : Frame → ℕ → Point → ℕ → Row → Bool
 oneSupports F pinned p i r = eqb pinned i && onBoundary F p r && alone (F .bound) p r
 
 unfoldable pub twoSupport : Frame → ℕ → Point → ℕ → ℕ → Row → Row → Bool
-twoSupport F pinned p i j r s = (eqb pinned i || eqb pinned j) && onBoundary F p r && onBoundary F p s && (if eqb i j then alone (F .bound) p r else together r s)
+twoSupport F pinned p i j r s =
+    (eqb pinned i || eqb pinned j) && onBoundary F p r && onBoundary F p s && (if eqb i j then alone (F .bound) p r else together r s)
 
 unfoldable pub supportedBy : List Row → Frame → ℕ → Point → Slot → Slot → Bool
 supportedBy R F pinned p NoRow second = false

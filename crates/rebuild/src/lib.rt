@@ -228,6 +228,7 @@ fn turn_of(
     requires { ⌜ (3 * upto ≤ length (now rows)) × (i < upto) ⌝ }
     ensures { λ k. ⌜ k ≡ turned (within left (turn (rowsOf (now (rows .entry))) f upto seed floor i (rowAt (rowsOf (now (rows .entry))) i) best)) ⌝ }
 {
+    // Read even with no reading left: only its floats tell whether it has a boundary, and a row passed over takes none.
     let r = rows::row_at(rows, i);
     if rows::no_boundary(r) {
         return Turned::On(best, left);

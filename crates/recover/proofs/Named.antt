@@ -41,7 +41,8 @@ module _ (n : ℕ) (s : State) (below : StateBelow n s) where
   pub recover-below : (R : List Row) (F : Frame) (upto : ℕ) → length (take upto R) ≤ n → recover R F upto s gives FoundBelow n
   unfolding recover onBoundaries
   recover-below R F upto few =
-      any-gives _ (λ fixed. bind-gives (rebuild-below n R F upto few _ _ (take upto R) 0 Failed (omega arith) tt) (λ found h. pure-gives _ (rebuilt-below fixed found h)))
+      any-gives _
+      (λ fixed. bind-gives (rebuild-below n R F upto few _ _ (take upto R) 0 Failed (omega arith) tt) (λ found h. pure-gives _ (rebuilt-below fixed found h)))
 
 -- ---- the entry
 
@@ -55,12 +56,15 @@ recovered-below n coll Failed below = tt
 recovered-below n Off (Done s) below = noRows-below
 recovered-below n (On act) (Done s) below = below
 
-recovering-below : (flat : List Float) (upto : ℕ) (p : Point) (F : Frame) (coll : Collector) → BothBelow upto (held coll) → RecoveredBelow upto (recovering flat upto p F coll)
+recovering-below : (flat : List Float) (upto : ℕ) (p : Point) (F : Frame) (coll : Collector)
+    → BothBelow upto (held coll) → RecoveredBelow upto (recovering flat upto p F coll)
 unfolding recovering
 recovering-below flat upto p F coll below =
     either (RecoveredBelow upto) _ tt (either (RecoveredBelow upto) _ tt
     (recovered-below upto coll _ (recover-below upto _ below (rowsOf flat) F upto (rw length-take (omega arith)) .has)))
 
+-- Where the rows that the caller's own collector holds lie below the prefix, so do those that the entry gives back. It is not so of every collector: a
+-- point that recovery keeps as it was keeps the caller's rows with it, whatever they are.
 pub both-are-there : (flat : List Float) (upto : ℕ) (p : Point) (F : Frame) (act : Active) → BothBelow upto act
     → {q : Point} {act′ : Active} → recovering flat upto p F (On act) ≡ recovered-is.At q (On act′) → BothBelow upto act′
 unfolding held

@@ -47,7 +47,8 @@ incre-step-2d-requires : tie.Need-incre-step-2d-requires Inv-loop μ-loop
 incre-step-2d-requires c κs =
     let found = c .before .before .before .before in
     let scan = found .before .before in
-    let below = named (scan .before .before .loop .inv) (scan .before .loop-test .taken) (scan .worst-row .ensures) (found .got .given .1) (c .before .row .given .1) in
+    let turn = scan .before in
+    let below = named (turn .before .loop .inv) (turn .loop-test .taken) (scan .worst-row .ensures) (found .got .given .1) (c .before .row .given .1) in
     search needs
 
 enum-told-3 : tie.Need-enum-told-3 Inv-loop μ-loop
@@ -59,7 +60,8 @@ returns-3 c =
     let held = pin .before .before in
     let found = held .before .before .before in
     let scan = found .before .before in
-    step-stops (scan .before .before .loop .inv) (scan .before .loop-test .taken) (scan .worst-row .ensures) (found .got .given .1) (held .row .given .1) (pin .incre-step-2d .ensures) (c .enum-told3 .given .1)
+    step-stops (scan .before .before .loop .inv) (scan .before .loop-test .taken) (scan .worst-row .ensures) (found .got .given .1)
+    (held .row .given .1) (pin .incre-step-2d .ensures) (c .enum-told3 .given .1)
 
 enum-known-next : tie.Need-enum-known-next Inv-loop μ-loop
 enum-known-next c = search needs
@@ -70,7 +72,8 @@ returns-4 c =
     let held = pin .before .before in
     let found = held .before .before .before in
     let scan = found .before .before in
-    step-fails (scan .before .before .loop .inv) (scan .before .loop-test .taken) (scan .worst-row .ensures) (found .got .given .1) (held .row .given .1) (pin .incre-step-2d .ensures) (c .before .next .given .1)
+    step-fails (scan .before .before .loop .inv) (scan .before .loop-test .taken) (scan .worst-row .ensures) (found .got .given .1)
+    (held .row .given .1) (pin .incre-step-2d .ensures) (c .before .next .given .1)
 
 enum-known-next-2 : tie.Need-enum-known-next-2 Inv-loop μ-loop
 enum-known-next-2 c = search needs
@@ -90,7 +93,9 @@ loop-again c =
     let held = pin .before .before in
     let found = held .before .before .before in
     let scan = found .before .before in
-    rw (c .fresh .ensures) (step-finds (scan .before .before .loop .inv) (scan .before .loop-test .taken) (scan .worst-row .ensures) (found .got .given .1) (held .row .given .1) (pin .incre-step-2d .ensures) (c .before .before .next2 .given .1))
+    rw (c .fresh .ensures)
+    (step-finds (scan .before .before .loop .inv) (scan .before .loop-test .taken) (scan .worst-row .ensures) (found .got .given .1)
+    (held .row .given .1) (pin .incre-step-2d .ensures) (c .before .before .next2 .given .1))
 
 returns-5 : tie.Need-returns-5 Inv-loop μ-loop
 returns-5 c = rounds-end (c .before .loop .inv) (search needs)

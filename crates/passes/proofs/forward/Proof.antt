@@ -19,13 +19,15 @@ use Rattle.passes.proofs.forward.Tie as tie
 
 abbrev Inv-attempts : tie.InvT-attempts
 Inv-attempts rows n skip scale f left s₀ rest₀ i residual over aim₀ last₀ s rest aim last =
-    (whole : Paid Found) → Attempt (rowsOf rows) f (i + 1) s₀ (after scale f rows i) rest₀ last₀ aim₀ whole → Attempt (rowsOf rows) f (i + 1) s (after scale f rows i) rest last aim whole
+    (whole : Paid Found) → Attempt (rowsOf rows) f (i + 1) s₀ (after scale f rows i) rest₀ last₀ aim₀ whole
+    → Attempt (rowsOf rows) f (i + 1) s (after scale f rows i) rest last aim whole
 
 abbrev μ-attempts : tie.MeasureT-attempts
 μ-attempts rows n skip scale f left s₀ rest₀ i residual over aim₀ last₀ s rest aim last = cond last 0 1
 
 abbrev Inv-rows : tie.InvT-rows
-Inv-rows rows n skip scale f left s₀ rest₀ i₀ s rest i = Turn scale f rows n i rest s (within left (forward scale (rowsOf rows) f (drop skip (rowsOf rows)) skip s₀))
+Inv-rows rows n skip scale f left s₀ rest₀ i₀ s rest i =
+    Turn scale f rows n i rest s (within left (forward scale (rowsOf rows) f (drop skip (rowsOf rows)) skip s₀))
 
 abbrev μ-rows : tie.MeasureT-rows
 μ-rows rows n skip scale f left s₀ rest₀ i₀ s rest i = n - i
@@ -61,7 +63,8 @@ returns-2 c =
     let tried = c .before .before in
     let test = tried .before .before .before in
     let turn = test .before .before .before .before .rows .inv in
-    trial-stops turn (search needs) (search needs) (cc) (rw (test .residual .ensures, test .before .row-at .ensures) at (tried .trial .ensures)) (c .enum-told .given .1)
+    let gave = rw (test .residual .ensures, test .before .row-at .ensures) at (tried .trial .ensures) in
+    trial-stops turn (search needs) (search needs) (cc) gave (c .enum-told .given .1)
 
 enum-known-over : tie.Need-enum-known-over Inv-attempts μ-attempts Inv-rows μ-rows
 enum-known-over c = search needs
@@ -72,11 +75,8 @@ frame-requires c κs = search needs
 attempts-holds : tie.Need-attempts-holds Inv-attempts μ-attempts Inv-rows μ-rows
 attempts-holds c = λ whole attempt. attempt
 
-add-recover-prefix : tie.Need-add-recover-prefix Inv-attempts μ-attempts Inv-rows μ-rows
-add-recover-prefix c = search needs
-
-recover-prefix-requires : tie.Need-recover-prefix-requires Inv-attempts μ-attempts Inv-rows μ-rows
-recover-prefix-requires c κs = search needs
+attempt-requires : tie.Need-attempt-requires Inv-attempts μ-attempts Inv-rows μ-rows
+attempt-requires c κs = search needs
 
 enum-told-2 : tie.Need-enum-told-2 Inv-attempts μ-attempts Inv-rows μ-rows
 enum-told-2 c = search needs
@@ -91,7 +91,9 @@ returns-3 c =
     let test = tried .before .before .before in
     let turn = test .before .before .before .before .rows .inv in
     let gave = rw (test .residual .ensures, test .before .row-at .ensures) at (tried .trial .ensures) in
-    attempt-stops (attempt .attempts .inv _ (trial-fails turn (search needs) (search needs) (cc) gave (failed .over .given .1) (aimed .frame .ensures))) (c .before .before .recover-prefix .ensures) (c .enum-told2 .given .1)
+    attempt-stops
+    (attempt .attempts .inv _ (trial-fails turn (search needs) (search needs) (cc) gave (failed .over .given .1) (aimed .frame .ensures)))
+    (c .before .before .attempt .ensures) (c .enum-told2 .given .1)
 
 enum-known-over-2 : tie.Need-enum-known-over-2 Inv-attempts μ-attempts Inv-rows μ-rows
 enum-known-over-2 c = search needs
@@ -101,8 +103,9 @@ attempts-less c = rw (c .if3 .left) (omega arith)
 
 attempts-again : tie.Need-attempts-again Inv-attempts μ-attempts Inv-rows μ-rows
 attempts-again c =
-    let attempt = c .before .before .before .before .before .attempts .inv in
-    λ whole began. attempt-again (attempt whole began) (c .before .before .before .before .recover-prefix .ensures) (c .before .before .over2 .given .1) (c .if3 .left)
+    let failed = c .before .before in
+    let call = failed .before .before in
+    λ whole began. attempt-again (call .before .attempts .inv whole began) (call .attempt .ensures) (failed .over2 .given .1) (c .if3 .left)
 
 enum-known-t : tie.Need-enum-known-t Inv-attempts μ-attempts Inv-rows μ-rows
 enum-known-t c = search needs
@@ -152,9 +155,16 @@ rows-again c =
     let turn = test .before .before .before .before .rows .inv in
     let row = test .before .row-at .ensures in
     ⊎-elim
-    (λ way. rw (way .15, way .16, way .14 .ensures) (record { all = search needs; gives = attempt-finds (way .9 .inv _ (trial-fails turn (search needs) (search needs) (cc) (rw (test .residual .ensures, row) at (way .1 .ensures)) (way .3 .given .1) (way .6 .ensures))) (way .10 .ensures) (way .12 .given .1) }))
+    (λ way.
+    let gave = rw (test .residual .ensures, row) at (way .1 .ensures) in
+    let began = trial-fails turn (search needs) (search needs) (cc) gave (way .3 .given .1) (way .6 .ensures) in
+    rw (way .15, way .16, way .14 .ensures)
+    (record { all = search needs; gives = attempt-finds (way .9 .inv _ began) (way .10 .ensures) (way .12 .given .1) }))
     (⊎-elim
-    (λ way. rw (way .10, way .11, way .9 .ensures) (step-finds turn (search needs) (search needs) (cc) (rw (test .residual .ensures, row) at (way .1 .ensures)) (way .3 .given .1) (way .5 .ensures) (way .7 .given .1)))
+    (λ way.
+    let gave = rw (test .residual .ensures, row) at (way .1 .ensures) in
+    rw (way .10, way .11, way .9 .ensures)
+    (step-finds turn (search needs) (search needs) (cc) gave (way .3 .given .1) (way .5 .ensures) (way .7 .given .1)))
     (λ way. rw (way .1, way .2) (keeps turn (search needs) (search needs) (cc))))
     (c .if2 .came)
 
@@ -165,8 +175,13 @@ returns-5 c =
     ⊎-elim
     (λ way. absurd (omega arith))
     (⊎-elim
-    (λ way. rw (way .21) (attempt-fails (way .14 .inv _ (trial-fails turn (way .0 .taken) (search needs) (cc) (rw (way .3 .ensures, way .2 .ensures) at (way .6 .ensures)) (way .8 .given .1) (way .11 .ensures))) (way .15 .ensures) (way .17 .given .1) (way .19 .taken)))
-    (λ way. rw (way .15) (step-fails turn (way .0 .taken) (search needs) (cc) (rw (way .3 .ensures, way .2 .ensures) at (way .6 .ensures)) (way .8 .given .1) (way .10 .ensures) (way .12 .given .1))))
+    (λ way.
+    let gave = rw (way .3 .ensures, way .2 .ensures) at (way .6 .ensures) in
+    let began = trial-fails turn (way .0 .taken) (search needs) (cc) gave (way .8 .given .1) (way .11 .ensures) in
+    rw (way .21) (attempt-fails (way .14 .inv _ began) (way .15 .ensures) (way .17 .given .1) (way .19 .taken)))
+    (λ way.
+    let gave = rw (way .3 .ensures, way .2 .ensures) at (way .6 .ensures) in
+    rw (way .15) (step-fails turn (way .0 .taken) (search needs) (cc) gave (way .8 .given .1) (way .10 .ensures) (way .12 .given .1))))
     (c .before .rows-test .came)
 
 returns-6 : tie.Need-returns-6 Inv-attempts μ-attempts Inv-rows μ-rows
@@ -196,8 +211,7 @@ forward-spec =
     enum-known-over
     frame-requires
     attempts-holds
-    add-recover-prefix
-    recover-prefix-requires
+    attempt-requires
     enum-told-2
     returns-3
     enum-known-over-2

@@ -54,7 +54,9 @@ loop-again c =
     (λ way. rw (way .4, way .1 .ensures, read) (takes scan (search needs) (search needs) (rw (way .1 .ensures, read) at (way .3 .taken))))
     (⊎-elim
     (λ way. rw (way .4) (passes-over scan (search needs) (search needs) (rw (way .1 .ensures, read) at (way .3 .left))))
-    (λ way. rw (way .1) (skips scan (search needs) (search needs) (rw (c .before .can-exceed .ensures, c .before .before .residual .ensures, read) at (way .0 .left)))))
+    (λ way.
+    let low = rw (c .before .can-exceed .ensures, c .before .before .residual .ensures, read) at (way .0 .left) in
+    rw (way .1) (skips scan (search needs) (search needs) low)))
     (c .if2 .came)
 
 returns-2 : tie.Need-returns-2 Inv-loop μ-loop

@@ -20,8 +20,10 @@ bounded-requires c κs = search needs
 returns : tie.Need-returns
 unfolding cut if_then_else_
 returns c =
-    let row = c .before .before .before .before .before .before in
-    rw (← row .before .finite-row .ensures, row .if1 .taken, ← c .before .before .before .fused .ensures, ← c .before .before .is-finite .ensures, c .before .if2 .taken) (c .bounded .ensures)
+    let rhs = c .before .before in
+    let row = rhs .before .before .before .before in
+    rw (← row .before .finite-row .ensures, row .if1 .taken, ← rhs .before .fused .ensures, ← rhs .is-finite .ensures, c .before .if2 .taken)
+    (c .bounded .ensures)
 
 returns-2 : tie.Need-returns-2
 unfolding cut if_then_else_

@@ -34,7 +34,9 @@ enum-known-after : tie.Need-enum-known-after Inv-loop μ-loop
 enum-known-after c = search needs
 
 returns : tie.Need-returns Inv-loop μ-loop
-returns c = finds (c .before .before .before .before .before .before .loop .inv) (search needs) (c .before .before .before .works .ensures) (c .before .after .given .1)
+returns c =
+    let tried = c .before .before .before in
+    finds (tried .before .before .before .loop .inv) (search needs) (tried .works .ensures) (c .before .after .given .1)
 
 enum-known-after-2 : tie.Need-enum-known-after-2 Inv-loop μ-loop
 enum-known-after-2 c = search needs
@@ -52,7 +54,9 @@ loop-less : tie.Need-loop-less Inv-loop μ-loop
 loop-less c = search needs
 
 loop-again : tie.Need-loop-again Inv-loop μ-loop
-loop-again c = tries-on (c .before .before .before .before .before .before .loop .inv) (search needs) (c .before .before .before .works .ensures) (c .before .after2 .given .1)
+loop-again c =
+    let tried = c .before .before .before in
+    tries-on (tried .before .before .before .loop .inv) (search needs) (tried .works .ensures) (c .before .after2 .given .1)
 
 returns-3 : tie.Need-returns-3 Inv-loop μ-loop
 returns-3 c = ends (c .before .loop .inv) (c .loop-test .left)

@@ -30,7 +30,8 @@ unfolding inside attempts middle half if_then_else_
 returns c =
     let both = c .before .before .before .before in
     let low = both .before .before .before in
-    rw (← low .before .before .max .ensures, ← low .before .min .ensures, ← low .is-finite .ensures, both .before .before .if1 .taken, ← both .before .is-finite2 .ensures, both .if2 .taken) (c .first-that-works .ensures)
+    rw (← low .before .before .max .ensures, ← low .before .min .ensures, ← low .is-finite .ensures)
+    (rw (both .before .before .if1 .taken, ← both .before .is-finite2 .ensures, both .if2 .taken) (c .first-that-works .ensures))
 
 slice-aggregate-first-that-works-2 : tie.Need-slice-aggregate-first-that-works-2
 slice-aggregate-first-that-works-2 c = search needs
@@ -43,7 +44,10 @@ unfolding inside attempts middle if_then_else_
 returns-2 c =
     let low = c .before .before .before in
     rw (← low .before .before .max .ensures, ← low .before .min .ensures, ← low .is-finite .ensures)
-    (⊎-elim (λ w. rw (w .0 .taken, ← w .1 .ensures, w .2 .left) (c .first-that-works2 .ensures)) (λ w. rw (w .left) (c .first-that-works2 .ensures)) (c .before .before .if1 .came))
+    (⊎-elim
+    (λ w. rw (w .0 .taken, ← w .1 .ensures, w .2 .left) (c .first-that-works2 .ensures))
+    (λ w. rw (w .left) (c .first-that-works2 .ensures))
+    (c .before .before .if1 .came))
 
 pub inside-spec : {M : Type 1} → statement M
 inside-spec =

@@ -37,12 +37,15 @@ returns c = own-works _ _ _ _ _ (c .before .before .before .works .ensures) (c .
 returns-2 : tie.Need-returns-2
 returns-2 c =
     let tried = c .before .before .before .before .before .before in
-    rw (c .inside .ensures) (span-kept _ _ _ _ _ (tried .before .before .works .ensures) (tried .rest2 .given .1) (c .before .before .before .before .interval-of .ensures) (c .before .before .v .given .1))
+    let cut = c .before .before in
+    rw (c .inside .ensures)
+    (span-kept _ _ _ _ _ (tried .before .before .works .ensures) (tried .rest2 .given .1) (cut .before .before .interval-of .ensures) (cut .v .given .1))
 
 returns-3 : tie.Need-returns-3
 returns-3 c =
     let tried = c .before .before .before .before .before in
-    span-empty _ _ _ _ _ (tried .before .before .works .ensures) (tried .rest2 .given .1) (c .before .before .before .interval-of .ensures) (c .before .after .given .1)
+    let cut = c .before in
+    span-empty _ _ _ _ _ (tried .before .before .works .ensures) (tried .rest2 .given .1) (cut .before .before .interval-of .ensures) (cut .after .given .1)
 
 returns-4 : tie.Need-returns-4
 returns-4 c =

@@ -43,7 +43,8 @@ unfolding supports supportedBy
 returns-3 c =
     let other = c .before .before .before in
     let read = other .before .before in
-    simp (read .before .before .first .given .1, ← read .row-or-zeros .ensures, other .second .given .1, ← c .before .row-or-zeros2 .ensures, ← c .two-support .ensures)
+    let holds = read .before .before in
+    simp (holds .first .given .1, ← read .row-or-zeros .ensures, other .second .given .1, ← c .before .row-or-zeros2 .ensures, ← c .two-support .ensures)
 
 pub active-basis-supports-max-y-spec : {M : Type 1} → statement M
 active-basis-supports-max-y-spec =

@@ -30,8 +30,12 @@ tested-requires c κs = search needs
 
 returns : tie.Need-returns
 returns c =
-    let call = c .before .before .before .before .before .before .before .before in
-    rw (c .tested .ensures) (try-tested _ _ _ _ _ _ _ _ (call .before .no-rows .ensures) (call .incre-step-2d .ensures) (c .before .before .before .before .before .before .s .given .1) (c .before .before .before .plausible .ensures) (c .before .before .if1 .taken) (c .before .ordered .ensures))
+    let test = c .before .before in
+    let arm = test .before .before .before .before in
+    let call = arm .before .before in
+    rw (c .tested .ensures)
+    (try-tested _ _ _ _ _ _ _ _ (call .before .no-rows .ensures) (call .incre-step-2d .ensures) (arm .s .given .1)
+    (test .before .plausible .ensures) (test .if1 .taken) (c .before .ordered .ensures))
 
 returns-2 : tie.Need-returns-2
 returns-2 c =
@@ -45,8 +49,10 @@ returns-3 c =
 
 returns-4 : tie.Need-returns-4
 returns-4 c =
-    let call = c .before .before .before .before .before .before in
-    try-implausible _ _ _ _ _ _ _ _ (call .before .no-rows .ensures) (call .incre-step-2d .ensures) (c .before .before .before .before .s .given .1) (c .before .plausible .ensures) (c .if1 .left)
+    let arm = c .before .before .before .before in
+    let call = arm .before .before in
+    try-implausible _ _ _ _ _ _ _ _ (call .before .no-rows .ensures) (call .incre-step-2d .ensures) (arm .s .given .1)
+    (c .before .plausible .ensures) (c .if1 .left)
 
 pub candidate-spec : {M : Type 1} → statement M
 candidate-spec =

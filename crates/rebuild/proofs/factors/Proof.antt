@@ -17,7 +17,10 @@ unfolding factors zero
 returns c =
     let finite-u = c .before .before in
     ⊎-elim
-    (λ v. ⊎-elim (λ w. rw (← finite-u .before .is-finite .ensures, w .0 .taken, ← w .1 .ensures, ← w .2, v .0 .taken, ← v .1, c .if3 .taken)) (λ w. cc) (finite-u .if1 .came))
+    (λ v. ⊎-elim
+    (λ w. rw (← finite-u .before .is-finite .ensures, w .0 .taken, ← w .1 .ensures, ← w .2, v .0 .taken, ← v .1, c .if3 .taken))
+    (λ w. cc)
+    (finite-u .if1 .came))
     (λ v. cc)
     (c .before .if2 .came)
 
@@ -26,7 +29,10 @@ unfolding factors zero
 returns-2 c =
     let finite-u = c .before .before in
     ⊎-elim
-    (λ v. ⊎-elim (λ w. rw (← finite-u .before .is-finite .ensures, w .0 .taken, ← w .1 .ensures, ← w .2, v .0 .taken, ← v .1, c .if3 .left)) (λ w. cc) (finite-u .if1 .came))
+    (λ v. ⊎-elim
+    (λ w. rw (← finite-u .before .is-finite .ensures, w .0 .taken, ← w .1 .ensures, ← w .2, v .0 .taken, ← v .1, c .if3 .left))
+    (λ w. cc)
+    (finite-u .if1 .came))
     (λ v. ⊎-elim
     (λ w. rw (← finite-u .before .is-finite .ensures, w .0 .taken, ← w .1 .ensures, ← w .2, v .0 .left, c .if3 .left))
     (λ w. rw (← finite-u .before .is-finite .ensures, w .0 .left, c .if3 .left))

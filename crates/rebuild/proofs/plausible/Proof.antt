@@ -34,7 +34,8 @@ returns-2 c =
     let lower = c .before .before .before in
     let finite-y = lower .before .before in
     let finite-x = finite-y .before .before in
-    rw (holds (finite-x .before .is-finite .ensures) (finite-x .if1 .left), holds (finite-y .before .is-finite2 .ensures) (finite-y .if2 .left), lower .if3 .left, c .before .if4 .left) (c .on-boundary .ensures)
+    rw (holds (finite-x .before .is-finite .ensures) (finite-x .if1 .left), holds (finite-y .before .is-finite2 .ensures) (finite-y .if2 .left))
+    (rw (lower .if3 .left, c .before .if4 .left) (c .on-boundary .ensures))
 
 pub plausible-spec : {M : Type 1} → statement M
 plausible-spec =

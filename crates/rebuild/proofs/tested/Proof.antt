@@ -25,7 +25,8 @@ active-basis-supports-max-y-requires c κs = search needs
 returns-2 : tie.Need-returns-2
 returns-2 c =
     let arm = c .before .before .before .before in
-    test-passes _ _ _ _ _ _ (arm .before .before .none-above .ensures) (arm .rest2 .given .1) (search needs) (c .before .active-basis-supports-max-y .ensures) (c .if2 .taken)
+    test-passes _ _ _ _ _ _ (arm .before .before .none-above .ensures) (arm .rest2 .given .1) (search needs)
+    (c .before .active-basis-supports-max-y .ensures) (c .if2 .taken)
 
 returns-3 : tie.Need-returns-3
 returns-3 c = test-spent _ _ _ _ _ _ (c .before .before .none-above .ensures) (c .enum-told .given .1)
@@ -36,7 +37,8 @@ returns-4 c = test-fails _ _ _ _ _ _ (c .before .before .before .none-above .ens
 returns-5 : tie.Need-returns-5
 returns-5 c =
     let arm = c .before .before .before .before in
-    test-unsupported _ _ _ _ _ _ (arm .before .before .none-above .ensures) (arm .rest2 .given .1) (search needs) (c .before .active-basis-supports-max-y .ensures) (c .if2 .left)
+    test-unsupported _ _ _ _ _ _ (arm .before .before .none-above .ensures) (arm .rest2 .given .1) (search needs)
+    (c .before .active-basis-supports-max-y .ensures) (c .if2 .left)
 
 pub tested-spec : {M : Type 1} → statement M
 tested-spec =

@@ -27,9 +27,11 @@ enum-known-s c = search needs
 
 returns-2 : tie.Need-returns-2
 returns-2 c =
-    let call = c .before .before .before .before .before .before in
+    let arm = c .before .before .before .before in
+    let call = arm .before .before in
     let test = call .before in
-    rw (← test .before .before .row-at .ensures) (turn-won _ _ _ _ _ _ _ _ _ (test .before .no-boundary .ensures) (test .if1 .left) (call .candidate .ensures) (c .before .before .before .before .s .given .1) (c .if2 .taken))
+    rw (← test .before .before .row-at .ensures)
+    (turn-won _ _ _ _ _ _ _ _ _ (test .before .no-boundary .ensures) (test .if1 .left) (call .candidate .ensures) (arm .s .given .1) (c .if2 .taken))
 
 better-requires : tie.Need-better-requires
 better-requires c κs = search needs
@@ -38,19 +40,23 @@ returns-3 : tie.Need-returns-3
 returns-3 c =
     let call = c .before .before in
     let test = call .before in
-    rw (← test .before .before .row-at .ensures) (turn-spent _ _ _ _ _ _ _ _ _ (test .before .no-boundary .ensures) (test .if1 .left) (call .candidate .ensures) (c .enum-told .given .1))
+    rw (← test .before .before .row-at .ensures)
+    (turn-spent _ _ _ _ _ _ _ _ _ (test .before .no-boundary .ensures) (test .if1 .left) (call .candidate .ensures) (c .enum-told .given .1))
 
 returns-4 : tie.Need-returns-4
 returns-4 c =
     let call = c .before .before .before in
     let test = call .before in
-    rw (← test .before .before .row-at .ensures) (turn-fails _ _ _ _ _ _ _ _ _ (test .before .no-boundary .ensures) (test .if1 .left) (call .candidate .ensures) (c .before .rest .given .1))
+    rw (← test .before .before .row-at .ensures)
+    (turn-fails _ _ _ _ _ _ _ _ _ (test .before .no-boundary .ensures) (test .if1 .left) (call .candidate .ensures) (c .before .rest .given .1))
 
 returns-5 : tie.Need-returns-5
 returns-5 c =
-    let call = c .before .before .before .before .before .before .before in
+    let arm = c .before .before .before .before .before in
+    let call = arm .before .before in
     let test = call .before in
-    rw (← test .before .before .row-at .ensures, c .better .ensures) (turn-better _ _ _ _ _ _ _ _ _ (test .before .no-boundary .ensures) (test .if1 .left) (call .candidate .ensures) (c .before .before .before .before .before .s .given .1) (c .before .if2 .left))
+    rw (← test .before .before .row-at .ensures, c .better .ensures)
+    (turn-better _ _ _ _ _ _ _ _ _ (test .before .no-boundary .ensures) (test .if1 .left) (call .candidate .ensures) (arm .s .given .1) (c .before .if2 .left))
 
 pub turn-of-spec : {M : Type 1} → statement M
 turn-of-spec =

@@ -37,7 +37,8 @@ returns-2 c =
     let on-s = c .before .before in
     let on-r = on-s .before .before in
     let named = on-r .before .before in
-    rw (holds (named .before .among .ensures) (named .if1 .left), holds (on-r .before .on-boundary .ensures) (on-r .if2 .left), holds (on-s .before .on-boundary2 .ensures) (on-s .if3 .left), eq-eqb _ _ (c .before .if4 .taken)) (c .alone .ensures)
+    rw (holds (named .before .among .ensures) (named .if1 .left), holds (on-r .before .on-boundary .ensures) (on-r .if2 .left))
+    (rw (holds (on-s .before .on-boundary2 .ensures) (on-s .if3 .left), eq-eqb _ _ (c .before .if4 .taken)) (c .alone .ensures))
 
 together-requires : tie.Need-together-requires
 together-requires c κs = search needs
@@ -48,7 +49,8 @@ returns-3 c =
     let on-s = c .before .before in
     let on-r = on-s .before .before in
     let named = on-r .before .before in
-    rw (holds (named .before .among .ensures) (named .if1 .left), holds (on-r .before .on-boundary .ensures) (on-r .if2 .left), holds (on-s .before .on-boundary2 .ensures) (on-s .if3 .left), ne-eqb _ _ (c .before .if4 .left)) (c .together .ensures)
+    rw (holds (named .before .among .ensures) (named .if1 .left), holds (on-r .before .on-boundary .ensures) (on-r .if2 .left))
+    (rw (holds (on-s .before .on-boundary2 .ensures) (on-s .if3 .left), ne-eqb _ _ (c .before .if4 .left)) (c .together .ensures))
 
 pub two-support-spec : {M : Type 1} → statement M
 two-support-spec =

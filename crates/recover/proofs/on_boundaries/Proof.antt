@@ -31,17 +31,22 @@ enum-known-t c = search needs
 returns : tie.Need-returns
 returns c =
     let call = c .before .before in
-    bound-spent _ _ _ _ _ _ (call .before .before .seed-of .ensures) (call .before .floor-of .ensures) (call .rebuild-2d-prefix .ensures) (c .enum-told .given .1)
+    bound-spent _ _ _ _ _ _ (call .before .before .seed-of .ensures) (call .before .floor-of .ensures) (call .rebuild-2d-prefix .ensures)
+    (c .enum-told .given .1)
 
 returns-2 : tie.Need-returns-2
 returns-2 c =
-    let call = c .before .before .before .before .before in
-    rw (c .shown .ensures, c .before .unmoved .ensures) (bound-fails _ _ _ _ _ _ (call .before .before .seed-of .ensures) (call .before .floor-of .ensures) (call .rebuild-2d-prefix .ensures) (c .before .before .before .rest .given .1))
+    let arm = c .before .before .before in
+    let call = arm .before .before in
+    rw (c .shown .ensures, c .before .unmoved .ensures)
+    (bound-fails _ _ _ _ _ _ (call .before .before .seed-of .ensures) (call .before .floor-of .ensures) (call .rebuild-2d-prefix .ensures)
+    (arm .rest .given .1))
 
 returns-3 : tie.Need-returns-3
 returns-3 c =
     let call = c .before .before .before in
-    bound-done _ _ _ _ _ _ (call .before .before .seed-of .ensures) (call .before .floor-of .ensures) (call .rebuild-2d-prefix .ensures) (c .before .t .given .1)
+    bound-done _ _ _ _ _ _ (call .before .before .seed-of .ensures) (call .before .floor-of .ensures) (call .rebuild-2d-prefix .ensures)
+    (c .before .t .given .1)
 
 pub on-boundaries-spec : {M : Type 1} → statement M
 on-boundaries-spec =

@@ -26,10 +26,14 @@ returns : tie.Need-returns
 returns c = recover-spent _ _ _ _ _ (c .before .before .project-x-at-fixed-y .ensures) (c .enum-told .given .1)
 
 returns-2 : tie.Need-returns-2
-returns-2 c = rw (c .on-boundaries .ensures) (recover-nowhere _ _ _ _ _ (c .before .before .before .before .project-x-at-fixed-y .ensures) (c .before .before .rest .given .1))
+returns-2 c =
+    let arm = c .before .before in
+    rw (c .on-boundaries .ensures) (recover-nowhere _ _ _ _ _ (arm .before .before .project-x-at-fixed-y .ensures) (arm .rest .given .1))
 
 returns-3 : tie.Need-returns-3
-returns-3 c = rw (c .on-boundaries2 .ensures) (recover-at _ _ _ _ _ (c .before .before .before .before .project-x-at-fixed-y .ensures) (c .before .before .x .given .1))
+returns-3 c =
+    let arm = c .before .before in
+    rw (c .on-boundaries2 .ensures) (recover-at _ _ _ _ _ (arm .before .before .project-x-at-fixed-y .ensures) (arm .x .given .1))
 
 pub recover-prefix-spec : {M : Type 1} → statement M
 recover-prefix-spec =
