@@ -1,4 +1,4 @@
-//! The instrumented copy of the original, which counts readings as document 01 counts them.
+//! The instrumented copy of the original, which counts readings as RULES 11 counts them.
 
 use crate::math::numerical::counted::reach;
 use crate::original::{Answer, Recovered, Recovery, number_of, row_or_none};

@@ -22,7 +22,7 @@ pub const FIXED: usize = 49;
 pub const ROW: usize = 24;
 
 impl Task {
-    /// No rows, and what document 01's examples use for all else.
+    /// No rows, and what the worked examples of RULES 13 use for all else.
     pub fn plain() -> Task {
         Task {
             rows: Vec::new(),
