@@ -16,6 +16,7 @@ ghost use Rattle.rows.specs.Constants.{epsRounding};
 ghost use Rattle.rows.specs.Rows.{rowsOf, weight};
 ghost use Rattle.step.specs.Step.{step, stepped};
 ghost use Rattle.step.specs.declared.Found.the-variants.{Done};
+ghost use Rattle.recover.specs.Recover.{recover};
 ghost use Rattle.passes.specs.Passes.{frame, forward, excess, worst, none, scanned, deferred};
 
 // The largest excess of a deferred scan so far, and its row.
@@ -86,6 +87,14 @@ fn trial(rows: &[f64], i: usize, residual: f64, f: Frame, s: State, left: u64) -
     Stepped::Done(s, left)
 }
 
+// One attempt to recover row i and those before it. It begins at the state before the trial, of which nothing is in its collector.
+fn attempt(rows: &[f64], i: usize, aim: Frame, s: State, left: u64) -> Stepped
+    requires { ⌜ 3 * i + 2 < length (now rows) ⌝ }
+    ensures { λ r. ⌜ r ≡ stepped (within left (recover (rowsOf (now (rows .entry))) aim (i + 1) s)) ⌝ }
+{
+    recover::recover_prefix(rows, i + 1, aim, s, left)
+}
+
 // The n rows from row `skip` on, up to the first infeasible step. Each takes a reading before its floats are read. Nothing of
 // a trial is used but whether it failed: then recovery is tried at a quarter of the tolerance, and, unless that is the same,
 // at the tolerance.
@@ -108,7 +117,7 @@ pub fn forward(
         if rest == 0 {
             return Stepped::Spent;
         }
-        rest -= 1;
+        rest -= 1; // a forward test
         let r = rows::row_at(rows, i);
         let residual = rows::residual(r, s.at);
         if beyond_rounding(residual, r, s.at) {
@@ -121,7 +130,7 @@ pub fn forward(
                     let mut aim = frame(f.bound, f.epsilon * 0.25, scale);
                     let mut last = aim.epsilon == f.epsilon;
                     'attempts: loop {
-                        match recover::recover_prefix(rows, i + 1, aim, s, rest) {
+                        match attempt(rows, i, aim, s, rest) {
                             Stepped::Spent => {
                                 return Stepped::Spent;
                             }
@@ -198,7 +207,7 @@ fn worst_row(rows: &[f64], n: usize, p: Point, eps: f64, left: u64) -> Scanned
         if rest == 0 {
             return Scanned::Spent;
         }
-        rest -= 1;
+        rest -= 1; // a row of a deferred scan
         let r = rows::row_at(rows, i);
         if can_exceed(rows::residual(r, p), eps) {
             let e = excess(eps, r, p);

@@ -13,7 +13,6 @@ use Rattle.rows.specs.declared.Point.{Point}
 use Rattle.rows.specs.Rows.{refusal, rowsOf}
 use Rattle.rows.proofs.Lengths.{length-rowsOf}
 use Rattle.rows.proofs.Refusals.{taken}
-use Rattle.line.specs.declared.Active.{Active}
 use Rattle.step.specs.declared.Frame.{Frame}
 use Rattle.step.specs.declared.State.{State}
 use Rattle.step.specs.declared.Found.{Found}
@@ -49,10 +48,10 @@ module _ (flat : List Float) (upto : ℕ) (p : Point) (F : Frame) (coll : Collec
       unfolding recovering if_then_else_
       prefix-too-long h = rw (← refusing, eq-eqb _ _ accepted, lt-ltb _ _ h)
 
-      module _ (inside : upto ≤ length flat / 3) {begun : Active} (holds : begun ≡ held coll)
-          {answer : Stepped} (call : answer ≡ stepped (within most (recover (rowsOf flat) F upto (record { at = p; active = begun })))) where
+      module _ (inside : upto ≤ length flat / 3) {begun : State} (begins : begun ≡ start)
+          {answer : Stepped} (call : answer ≡ stepped (within most (recover (rowsOf flat) F upto begun))) where
         recovery : answer ≡ stepped (within most (recover (rowsOf flat) F upto start))
-        recovery = rw holds at call
+        recovery = rw begins at call
 
         finds : {found : Found} {l : ℕ} → within most (recover (rowsOf flat) F upto start) ≡ paid found l → recovered coll found ≡ entry
         unfolding recovering if_then_else_

@@ -13,6 +13,7 @@ ghost use lib.ListN.{length};
 ghost use Rattle.readings.specs.Readings.{within};
 ghost use Rattle.rows.specs.Rows.{rowsOf};
 ghost use Rattle.step.specs.Step.{stepped};
+ghost use Rattle.step.specs.Collector.{held};
 ghost use Rattle.recover.specs.Recover.{seedOf, floorOf, unmoved, onBoundaries, recover, recovering};
 
 // What `recover_2d_prefix` answers: the point and the collector, or a refusal by its number.
@@ -82,6 +83,16 @@ pub fn recover_prefix(rows: &[f64], upto: usize, f: Frame, s: State, left: u64) 
     }
 }
 
+// Where a caller's recovery begins: at its point, with the rows that its collector holds.
+fn begun(at: Point, coll: Collector) -> State
+    ensures { λ s. ⌜ s ≡ record { at = at; active = held coll } ⌝ }
+{
+    State {
+        at: at,
+        active: step::held(coll),
+    }
+}
+
 // Public: recovery of the rows before `upto` from a point and a caller's collector; refusals 1, 2, 7 and 6. A refusal gives
 // no collector back: the caller's is as it was.
 pub fn recover_2d_prefix(
@@ -100,10 +111,7 @@ pub fn recover_2d_prefix(
     if upto > rows.len() / 3 {
         return Recovered::Refused(7);
     }
-    let s = State {
-        at: at,
-        active: step::held(coll),
-    };
+    let s = begun(at, coll);
     match recover_prefix(rows, upto, f, s, u64::MAX) {
         Stepped::Done(t, _) => {
             let x = float::settled(t.at.x);

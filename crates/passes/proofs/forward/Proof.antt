@@ -75,11 +75,8 @@ frame-requires c κs = search needs
 attempts-holds : tie.Need-attempts-holds Inv-attempts μ-attempts Inv-rows μ-rows
 attempts-holds c = λ whole attempt. attempt
 
-add-recover-prefix : tie.Need-add-recover-prefix Inv-attempts μ-attempts Inv-rows μ-rows
-add-recover-prefix c = search needs
-
-recover-prefix-requires : tie.Need-recover-prefix-requires Inv-attempts μ-attempts Inv-rows μ-rows
-recover-prefix-requires c κs = search needs
+attempt-requires : tie.Need-attempt-requires Inv-attempts μ-attempts Inv-rows μ-rows
+attempt-requires c κs = search needs
 
 enum-told-2 : tie.Need-enum-told-2 Inv-attempts μ-attempts Inv-rows μ-rows
 enum-told-2 c = search needs
@@ -96,7 +93,7 @@ returns-3 c =
     let gave = rw (test .residual .ensures, test .before .row-at .ensures) at (tried .trial .ensures) in
     attempt-stops
     (attempt .attempts .inv _ (trial-fails turn (search needs) (search needs) (cc) gave (failed .over .given .1) (aimed .frame .ensures)))
-    (c .before .before .recover-prefix .ensures) (c .enum-told2 .given .1)
+    (c .before .before .attempt .ensures) (c .enum-told2 .given .1)
 
 enum-known-over-2 : tie.Need-enum-known-over-2 Inv-attempts μ-attempts Inv-rows μ-rows
 enum-known-over-2 c = search needs
@@ -108,7 +105,7 @@ attempts-again : tie.Need-attempts-again Inv-attempts μ-attempts Inv-rows μ-ro
 attempts-again c =
     let failed = c .before .before in
     let call = failed .before .before in
-    λ whole began. attempt-again (call .before .attempts .inv whole began) (call .recover-prefix .ensures) (failed .over2 .given .1) (c .if3 .left)
+    λ whole began. attempt-again (call .before .attempts .inv whole began) (call .attempt .ensures) (failed .over2 .given .1) (c .if3 .left)
 
 enum-known-t : tie.Need-enum-known-t Inv-attempts μ-attempts Inv-rows μ-rows
 enum-known-t c = search needs
@@ -214,8 +211,7 @@ forward-spec =
     enum-known-over
     frame-requires
     attempts-holds
-    add-recover-prefix
-    recover-prefix-requires
+    attempt-requires
     enum-told-2
     returns-3
     enum-known-over-2

@@ -13,8 +13,8 @@ returns c = entry-refuses _ _ _ _ _ (c .before .refusal .ensures) (c .if1 .taken
 returns-2 : tie.Need-returns-2
 returns-2 c = prefix-too-long _ _ _ _ _ (c .before .before .refusal .ensures) (c .before .if1 .left) (c .if2 .taken)
 
-held-requires : tie.Need-held-requires
-held-requires c κs = search needs
+begun-requires : tie.Need-begun-requires
+begun-requires c κs = search needs
 
 recover-prefix-requires : tie.Need-recover-prefix-requires
 recover-prefix-requires c κs = search needs
@@ -44,14 +44,14 @@ returns-3 c =
     let test = call .before .before in
     rw (c .collected .ensures, c .before .settled2 .ensures, c .before .before .settled .ensures)
     (entry-finds _ _ _ _ _ (test .before .before .refusal .ensures) (test .before .if1 .left) (test .if2 .left)
-    (call .before .held .ensures) (call .recover-prefix .ensures) (arm .t .given .1))
+    (call .before .begun .ensures) (call .recover-prefix .ensures) (arm .t .given .1))
 
 returns-4 : tie.Need-returns-4
 returns-4 c =
     let call = c .before .before in
     let test = call .before .before in
     entry-fails _ _ _ _ _ (test .before .before .refusal .ensures) (test .before .if1 .left) (test .if2 .left)
-    (call .before .held .ensures) (call .recover-prefix .ensures) (c .enum-told .given .1)
+    (call .before .begun .ensures) (call .recover-prefix .ensures) (c .enum-told .given .1)
 
 returns-5 : tie.Need-returns-5
 returns-5 c =
@@ -59,7 +59,7 @@ returns-5 c =
     let test = call .before .before in
     absurd
     (never-spent _ _ _ _ _ (test .before .before .refusal .ensures) (test .before .if1 .left) (test .if2 .left)
-    (call .before .held .ensures) (call .recover-prefix .ensures) (c .enum-told2 .given .1))
+    (call .before .begun .ensures) (call .recover-prefix .ensures) (c .enum-told2 .given .1))
 
 pub recover-2d-prefix-spec : {M : Type 1} → statement M
 recover-2d-prefix-spec =
@@ -68,7 +68,7 @@ recover-2d-prefix-spec =
     refusal-requires
     returns
     returns-2
-    held-requires
+    begun-requires
     recover-prefix-requires
     enum-known-t
     settled-requires
