@@ -87,7 +87,7 @@ fn trial(rows: &[f64], i: usize, residual: f64, f: Frame, s: State, left: u64) -
     Stepped::Done(s, left)
 }
 
-// One attempt to recover the rows up to row i. It begins at the state before the trial: nothing of that is in its collector.
+// One attempt to recover row i and those before it. It begins at the state before the trial, of which nothing is in its collector.
 fn attempt(rows: &[f64], i: usize, aim: Frame, s: State, left: u64) -> Stepped
     requires { ⌜ 3 * i + 2 < length (now rows) ⌝ }
     ensures { λ r. ⌜ r ≡ stepped (within left (recover (rowsOf (now (rows .entry))) aim (i + 1) s)) ⌝ }
