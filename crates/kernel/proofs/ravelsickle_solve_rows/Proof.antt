@@ -53,7 +53,8 @@ use Rattle.solve.specs.declared.Outcome.{Outcome}
 use Rattle.solve.proofs.Outcome as O
 use Rattle.solve.proofs.Outcome.Laws as O′
 use Rattle.lent.specs.Lent.{solveRows}
-use Rattle.lent.proofs.Laws.{came, returned, says-both, proved, last-is}
+use Rattle.lent.proofs.Laws.{came, returned, says-both, proved}
+use Rattle.lent.proofs.Slices.{last-is}
 use Rattle.lent.proofs.solve_rows as core
 use Rattle.lent.proofs.solve_rows.Symbol as core-def
 use Rattle.lent.proofs.solve_rows.Symbol.{name as #core}
@@ -364,7 +365,7 @@ module _ {M : Type 1} (𝓤 : URA M) (H : Heap 𝓤) (A : Atoms 𝓤) (W : Given
           land ! (from ! (stop !)) (init ! 18 refl (LL.lawful T.the-type T′.the-laws 𝓤 H A W .typed a _ got .0)) $
           returns-within ! Post refl (look ! 18 refl) $ forget ! 8 refl $ forget ! 10 refl $ forget ! 14 refl $ forget ! 16 refl $ forget ! 18 refl $
           nothing ! $ move ! (1 ∷ 0 ∷ []) $ join ! $ move ! (1 ∷ []) $
-          use1 W (‵ (finally R.the-row γ rs)) (last-is R.the-row b o 𝓤 H A W κ (named 0) γ rs (sr ∷ [])) $ move ! (1 ∷ []) $
+          last-is ! R.the-row b o κ (named 0) γ rs n $ move ! (1 ∷ []) $
           ends a w rs got refl (e₁ ∙ refused-answer t rs (sym e ∙ is-true y held)) (refused-rows t rs (sym e ∙ is-true y held)))))
           (λ failed. skips ! $ exec ! C Λ En parts.t-3 (atRet En Post) $ solves v (sym e ∙ is-false y failed))
 
