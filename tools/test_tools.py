@@ -351,7 +351,9 @@ class Commands(unittest.TestCase):
             self.assertEqual((process.stdout.read(), process.wait()), (b"", 2))
 
     def test_stopped_by_hand(self):
-        with self.start("records.py", "pack", stdin=subprocess.PIPE, stdout=subprocess.PIPE) as process:
+        """Whoever runs the tests in the background has SIGINT ignored, and what they start would inherit that."""
+        heeded = lambda: signal.signal(signal.SIGINT, signal.SIG_DFL)
+        with self.start("records.py", "pack", stdin=subprocess.PIPE, stdout=subprocess.PIPE, preexec_fn=heeded) as process:
             time.sleep(0.5)
             process.send_signal(signal.SIGINT)
             self.assertEqual((process.wait(), process.stderr.read()), (130, b""))
