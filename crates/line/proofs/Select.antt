@@ -10,8 +10,8 @@ use Rattle.line.specs.declared.Slot.{Slot}
 use Rattle.line.specs.declared.Slot.the-variants.{Holds}
 use Rattle.line.specs.declared.Term.{Term}
 use Rattle.line.specs.declared.Span.{Span}
-use Rattle.line.specs.declared.Cut.{Cut}
-use Rattle.line.specs.declared.Cut.the-variants.{Nothing, All, Above, Below}
+use Rattle.line.specs.declared.Offcut.{Offcut}
+use Rattle.line.specs.declared.Offcut.the-variants.{Nothing, All, Above, Below}
 use Rattle.line.specs.declared.Narrowed.the-variants.{Empty, Kept}
 use Rattle.line.specs.Active.{setFirst, setSecond}
 use Rattle.line.specs.Line.{coefficientIsZero, narrow, cutOff, without}
@@ -39,8 +39,8 @@ without-cut cancel ε k t s = cases (coefficientIsZero cancel t) (t .b ≺ neg �
 abbrev pub span : Float → Float → Slot → Slot → Span
 span high low first second = record { high = high; low = low; active = record { first = first; second = second } }
 
-module _ (cancel : Bool) (ε : Float) (k : ℕ) (t : Term) (v : Span) {cut : Cut} (is : cut ≡ cutOff cancel ε t (v .high) (v .low)) where
-  narrowed : {c : Cut} → cut ≡ c → narrow cancel ε k t v ≡ without k c v
+module _ (cancel : Bool) (ε : Float) (k : ℕ) (t : Term) (v : Span) {cut : Offcut} (is : cut ≡ cutOff cancel ε t (v .high) (v .low)) where
+  narrowed : {c : Offcut} → cut ≡ c → narrow cancel ε k t v ≡ without k c v
   narrowed e = sym (without-cut cancel ε k t v) ∙ ap (λ c. without k c v) (sym is ∙ e)
 
   pub cuts-all : cut ≡ All → narrow cancel ε k t v ≡ Empty
@@ -48,7 +48,7 @@ module _ (cancel : Bool) (ε : Float) (k : ℕ) (t : Term) (v : Span) {cut : Cut
   cuts-all e = narrowed e
 
   module _ (w : Span) where
-    written : {c : Cut} {high low : Float} {first second : Slot} → without k c v ≡ Kept (span high low first second) → cut ≡ c
+    written : {c : Offcut} {high low : Float} {first second : Slot} → without k c v ≡ Kept (span high low first second) → cut ≡ c
         → w .high ≡ high → w .low ≡ low → w .active .first ≡ first → w .active .second ≡ second
         → narrow cancel ε k t v ≡ Kept w
     written u e h l f s = narrowed e ∙ u ∙ rw (← h, ← l, ← f, ← s)

@@ -15,8 +15,8 @@ use Rattle.line.specs.Active.{noRows, setFirst, setSecond}
 use Rattle.line.specs.declared.Active.{Active}
 use Rattle.line.specs.declared.Term.{Term}
 use Rattle.line.specs.declared.Span.{Span}
-use Rattle.line.specs.declared.Cut.{Cut}
-use Rattle.line.specs.declared.Cut.the-variants.{Nothing, All, Above, Below}
+use Rattle.line.specs.declared.Offcut.{Offcut}
+use Rattle.line.specs.declared.Offcut.the-variants.{Nothing, All, Above, Below}
 use Rattle.line.specs.declared.Narrowed.{Narrowed}
 use Rattle.line.specs.declared.Narrowed.the-variants.{Empty, Kept}
 use Rattle.line.specs.declared.Reduced.{Reduced}
@@ -79,13 +79,13 @@ onLine false = onX
 -- ---- what the code gives back
 
 -- what a term cuts off the numbers from `low` to `high`, and a span without what term k cuts off
-unfoldable pub cutOff : Bool → Float → Term → Float → Float → Cut
+unfoldable pub cutOff : Bool → Float → Term → Float → Float → Offcut
 cutOff cancel ε t high low =
     if coefficientIsZero cancel t then (if t .b ≺ neg ε then All else Nothing)
     else if t .a ≻ zero then (if t .b ≺ high ⊗ t .a then Above (t .b ⊘ t .a) else Nothing)
     else if t .b ≺ low ⊗ t .a then Below (t .b ⊘ t .a) else Nothing
 
-unfoldable pub without : ℕ → Cut → Span → Narrowed
+unfoldable pub without : ℕ → Offcut → Span → Narrowed
 without k Nothing s = Kept s
 without k All s = Empty
 without k (Above v) s = Kept (record { high = v; low = s .low; active = setFirst k (s .active) })

@@ -37,7 +37,7 @@ pub struct Span {
 }
 
 // What a term cuts off a span: nothing, all of it, or what lies above or below a number.
-pub enum Cut {
+pub enum Offcut {
     Nothing,
     All,
     Above(f64),
@@ -149,25 +149,25 @@ fn coefficient_is_zero(cancel: bool, t: Term) -> bool
 }
 
 // What a term cuts off the numbers from `low` to `high`. The end is selected before the one rare branch.
-fn cut_off(cancel: bool, eps: f64, t: Term, high: f64, low: f64) -> Cut
+fn cut_off(cancel: bool, eps: f64, t: Term, high: f64, low: f64) -> Offcut
     ensures { λ c. ⌜ c ≡ cutOff cancel eps t high low ⌝ }
 {
     if coefficient_is_zero(cancel, t) {
         if t.b < -eps {
-            return Cut::All;
+            return Offcut::All;
         }
-        return Cut::Nothing;
+        return Offcut::Nothing;
     }
     let up = t.a > 0.0;
     let edge = if up { high } else { low };
     if t.b < edge * t.a {
         let v = t.b / t.a;
         if up {
-            return Cut::Above(v);
+            return Offcut::Above(v);
         }
-        return Cut::Below(v);
+        return Offcut::Below(v);
     }
-    Cut::Nothing
+    Offcut::Nothing
 }
 
 fn between(high: f64, low: f64, first: Slot, second: Slot) -> Span
@@ -262,16 +262,16 @@ pub fn lp_1d_core(
         rest -= 1;
         let t = on_line(steep, p, q, rows::row_at(rows, k));
         match cut_off(true, eps, t, high, low) {
-            Cut::Nothing => {}
-            Cut::Above(v) => {
+            Offcut::Nothing => {}
+            Offcut::Above(v) => {
                 high = v;
                 first = Slot::Holds(k);
             }
-            Cut::Below(v) => {
+            Offcut::Below(v) => {
                 low = v;
                 second = Slot::Holds(k);
             }
-            Cut::All => {
+            Offcut::All => {
                 return Reduced::Done(void(between(high, low, first, second)), rest);
             }
         }
@@ -309,16 +309,16 @@ fn span_of(pairs: &[f64], n: usize, autonan: bool, eps: f64) -> Span
     let mut k = 0usize;
     while k < n {
         match cut_off(false, eps, pair_at(pairs, k), high, low) {
-            Cut::Nothing => {}
-            Cut::Above(v) => {
+            Offcut::Nothing => {}
+            Offcut::Above(v) => {
                 high = v;
                 first = Slot::Holds(k);
             }
-            Cut::Below(v) => {
+            Offcut::Below(v) => {
                 low = v;
                 second = Slot::Holds(k);
             }
-            Cut::All => {
+            Offcut::All => {
                 return void(between(high, low, first, second));
             }
         }
