@@ -1322,7 +1322,7 @@ pub m :
             ("`Laws.antt` of `base`", []),
             ("spare", [unused]),
             ("`spare-one`", [unused]),
-            ("base/Laws: `other`", [unused]),
+            ("base/Laws: `right`", [unused]),
             ("base/Tools", [unused]),
             ("`base/proofs/Laws.antt`", [unused]),
         ]:
@@ -1383,10 +1383,61 @@ pub m :
                 self.put(edit, text)
                 self.assert_found(*(f"{edit}:{line}" for line in wanted))
 
+    def test_theorems_that_are_not_there(self):
+        self.put("crates/solve/proofs/Sums.antt", "-- Sums.\npub of-two : ℕ\nof-two = 2\n\nof-one : ℕ\nof-one = 1\n")
+        for kept_by, wanted in [
+            ("base/Laws: `right`, `zero-left`; Sums: `of-two`", []),
+            ("base/Laws: `right`, `left` and `over`", ["`left` in crates/base/proofs/Laws.antt", "`over` in crates/base/proofs/Laws.antt"]),
+            ("base/Sums: `right`", ["`right` in crates/base/proofs/Sums.antt"]),  # which are definitions
+            ("Sums: `of-two`, `of-one`", ["`of-one` in crates/solve/proofs/Sums.antt"]),  # which is not public
+            ("base/Laws; `left`", []),
+            ("contract of `left`: `right`", []),
+        ]:
+            with self.subTest(kept_by=kept_by):
+                self.put("docs/PROMISES.md", f"{self.PROMISED}| Sums | {kept_by}; `of-two` | base/minus |\n")
+                self.assert_found(*(f"docs/PROMISES.md:6: there is no public {name}" for name in wanted))
+
+    PARAGRAPHS = "# Rules\n\n## 1. Sums\n\n- **1.1** They are made (1.2).\n- **1.2** Of two.\n\n## 2. Stops\n\n- **2.1** None.\n"
+
+    def test_rules_out_of_order(self):
+        for old, new, wanted in [
+            ("**1.2**", "**1.3**", ["5: there is no 1.2 in docs/RULES.md", "6: 1.3 stands where 1.2 is next"]),
+            ("**2.1**", "**1.3**", ["10: 1.3 stands where 2.1 is next"]),
+            ("## 2.", "## 3.", ["8: 3 stands where 2 is next"]),
+            ("**1.2**", "**1.1**", ["5: there is no 1.2 in docs/RULES.md", "6: 1.1 stands where 1.2 is next"]),
+            ("Of two.", "Of two (0.5 each, as 7.5).", []),
+        ]:
+            with self.subTest(new=new):
+                self.put("docs/RULES.md", self.PARAGRAPHS)
+                self.assert_found()
+                self.change("docs/RULES.md", old, new)
+                self.assert_found(*(f"docs/RULES.md:{finding}" for finding in wanted))
+
+    def test_rules_that_are_not_there(self):
+        rules = "RULES"  # apart from its number, since this file is held to the same
+        self.put("docs/RULES.md", self.PARAGRAPHS)
+        for cited, wanted in [
+            ("1, 2.1 and 1.2", []),
+            ("1.1 to 1.3", ["1.3"]),
+            ("3, 4", ["3", "4"]),
+            ("2.1, and 7 more", []),
+            ("2.1 to the end", []),
+        ]:
+            for name in ("README.md", "docs/MORE.md", "tools/some.py", "bindings/c/some.h", "compare/src/some.rs", "crates/base/notes.txt"):
+                with self.subTest(cited=cited, name=name):
+                    self.put(name, f"See {rules} {cited}.\n")
+                    self.assert_found(*(f"{name}:1: there is no {number} in docs/RULES.md" for number in wanted))
+                    (self.root / name).unlink()
+        self.put("bindings/rust/target/some.rs", f"See {rules} 9.\n")
+        self.put("docs/PROMISES.md", self.PROMISED + "| 1.1 to 1.3 It adds; 2.1 and stops, `0.5` too | 7.5 | base/minus |\n\n7.5 in words.\n")
+        self.assert_found("docs/PROMISES.md:6: there is no 1.3 in docs/RULES.md")
+        (self.root / "docs" / "RULES.md").unlink()
+        self.put("README.md", f"See {rules} 1.\n")
+        self.assertIn("README.md:1: there is no 1 in docs/RULES.md", [str(finding) for finding in house.findings(self.root)])
+
     def test_the_command(self):
-        for path in HERE.iterdir():
-            if path.is_file():
-                self.put(f"tools/{path.name}", path.read_bytes())
+        for name in ("house", "command.py"):
+            self.put(f"tools/{name}", (HERE / name).read_bytes())
 
         def run_here():
             done = subprocess.run([sys.executable, str(self.root / "tools" / "house")], capture_output=True, cwd="/")

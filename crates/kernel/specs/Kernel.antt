@@ -46,7 +46,7 @@ noMode number = ltb 1 number
 unfoldable pub orTen : ℕ → ℕ → ℕ
 orTen number mode = if not (eqb number 0) then number else if noMode mode then 10 else 0
 
--- which refusal an input gets before a row is read, and 0 where it gets none: the solve's own, 1 or 2, and then 10 (RULES 10)
+-- which refusal an input gets before a row is read, and 0 where it gets none: the solve's own, 1 or 2, and then 10 (RULES 10.5)
 unfoldable pub refusalOf : SolveTask → List Float → ℕ
 refusalOf t flat = orTen (Solve.refusalOf (task t) flat) (t .normalize)
 

@@ -1,4 +1,4 @@
--- What crosses to C: each answer as a record, with a value in every field for every input (RULES 9, 10 and 12). Its refusal is a number, 0 where there
+-- What crosses to C: each answer as a record, with a value in every field for every input (RULES 2.18, 2.19). Its refusal is a number, 0 where there
 -- is none; a coordinate or an end that it does not have is NaN, and anything else that it does not have 0. Assumes nothing.
 use Prim.Native.Nat.{ℕ}
 use mathlib.Core.Bool.{Bool, true, false}

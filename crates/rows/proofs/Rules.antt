@@ -1,4 +1,4 @@
--- What RULES 4 says of normalising, and RULES 10 of refusal 5, as facts of the definitions.
+-- What RULES 4 says of normalising and of refusal 5, as facts of the definitions.
 use mathlib.Core.Path.{_≡_, refl}
 use mathlib.Core.Logic.{_↔_, _⊎_, inl, inr}
 use mathlib.Core.Bool.{Bool, true, false, not, _&&_, _||_, true≢false}

@@ -1,4 +1,4 @@
-// The sample of RULES 12, from standard input, fed to the reader a byte at a time.
+// The sample of RULES 13.12, from standard input, fed to the reader a byte at a time.
 fn main() {
     let mut held = [0u8; record::LONGEST];
     let mut floats = [0.0; record::FLOATS];

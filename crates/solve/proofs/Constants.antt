@@ -1,4 +1,4 @@
--- The constants of RULES 3, as the decimals that are written there: each float is the nearest to its own.
+-- The constants of RULES 3.11, as the decimals that are written there: each float is the nearest to its own.
 use mathlib.Core.Path.{_≡_, refl}
 use mathlib.Core.Bool.{false}
 use Prim.Native.Nat.{ℕ, _^_}

@@ -86,7 +86,7 @@ module _ (T : Task) where
   unfolding allSolves ofSolve
   count-sharp rows = solves-count 7 rows _
 
-  -- the bound of RULES 1
+  -- the bound of RULES 1.3
   pub count-bound : (rows : List Row) → let n = length rows in count (allSolves T rows) ≤ 28 * n ^ 3 + 133 * n ^ 2 + 70 * n + 28
   count-bound rows = omega (arith, count-sharp rows, powers-grow (length rows))
 

@@ -131,11 +131,11 @@ module _ (T : Task) (flat : List Float) where
       let last = left.last-normalised A (rowsOf flat) solves in
       (last .0, ap (λ (e : Ended (List Float)). e .rows) (stops A fits above) ∙ ap flatOf (last .1), last .2)
 
-  -- "otherwise answer, rows and active rows are those of demand 2"
+  -- "Otherwise answer, rows and active rows are those of 1.2"
   pub finishes : (A : ℕ) → taken ≤ A → solve T A flat ≡ lp2dIncreMaxY T flat
   finishes = allowance.solve-finishes T flat
 
-  -- ---- RULES 4: with normalising off the rows are as they were lent, whatever comes back
+  -- ---- RULES 2.17: with normalising off the rows are as they were lent, whatever comes back
 
   pub as-lent : T .normalize ≡ Off → (A : ℕ) → solve T A flat .rows ≡ flat
   as-lent off A = left.solve-as-lent T off A flat
@@ -143,8 +143,7 @@ module _ (T : Task) (flat : List Float) where
   pub as-lent-alike : T .normalize ≡ Off → lp2dIncreMaxY T flat .rows ≡ flat
   as-lent-alike off = rw (← finishes taken (le-refl taken)) (as-lent off taken)
 
--- ---- RULES 9. "An answer is one of four: point with x and y, level with y alone (x is NaN), across with x alone, nothing (both NaN). Infinite numbers are
--- numbers here."
+-- ---- RULES 9.1 to 9.3: an answer is one of four, by which of x and y is NaN, and infinite numbers are numbers
 
 module _ (s : State) where
   abbrev x : Float
@@ -163,7 +162,7 @@ module _ (s : State) where
   pub infinite-numbers : {minus : Bool} → (x ≡ inf minus) ⊎ (y ≡ inf minus) → answer (Done s) ≢ Nothing
   infinite-numbers = of-answers.infinite-numbers s
 
--- "0 or 1 row: one row with |a| < 1e-9 and b > 1e-9 gives (NaN, c/b); all else (NaN, NaN). Nothing is normalised."
+-- ---- RULES 5.1 to 5.3: no row, and one
 
 module _ (T : Task) where
   pub no-row : lp2dIncreMaxY T [] ≡ record { outcome = Answered Nothing noRows 0; rows = [] }
@@ -180,7 +179,7 @@ module _ (T : Task) where
         → lp2dIncreMaxY T (a ∷ b ∷ c ∷ []) ≡ record { outcome = Answered Nothing noRows 1; rows = a ∷ b ∷ c ∷ [] }
     one-row-nothing = of-answers.one-row-nothing T a b c
 
--- ---- RULES 3: the constants
+-- ---- RULES 3.11: the constants
 
 pub constants : Constants
 constants = constants-hold

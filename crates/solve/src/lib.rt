@@ -334,7 +334,7 @@ fn of_rows(rows: &mut [f64], n: usize, task: Task, allowance: u64) -> Outcome
 
 // ---- the entries
 
-// Public: which refusal the input of a solve gets before a row is read; 0 where it gets none.
+// Which refusal the input of a solve gets before a row is read; 0 where it gets none.
 pub fn refusal_of(rows: &[f64], task: Task) -> u64
     ensures { λ k. ⌜ k ≡ refusalOf task (now (rows .entry)) ⌝ }
 {

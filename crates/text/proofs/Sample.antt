@@ -38,7 +38,7 @@ infinity = f64 0x7FF0000000000000
 abbrev answered : Answer → Slot → Slot → ℕ → Outcome
 answered a first second count = Answered a (record { first = first; second = second }) count
 
--- the sample of RULES 12; then -0.1, infinity, NaN and -0, rows and counts of several digits, and the refusals
+-- the sample of RULES 13.12; then -0.1, infinity, NaN and -0, rows and counts of several digits, and the refusals
 abbrev pub Sample : Type 0
 Sample =
     (outcomeLine 1 (answered (Point one one) (Holds 0) (Holds 1) 7) prints "1 point 3FF0000000000000 3FF0000000000000 0 1 7\n")
