@@ -1,6 +1,5 @@
--- `lent::gather` and `lent::scatter`: one walk of the MIR that they share, by hand, with a loop. Each turn copies a row out of one slice and lends the other
--- again to the function that stores it.
--- Assumes `Given`.
+-- `lent::gather` and `lent::scatter`: one walk of the MIR that they share, by hand, with a loop. Each turn copies a row out of one slice and lends
+-- the other again to the function that stores it. Assumes `Given`.
 use mathlib.Core.Path.{_≡_, refl, sym, ap, subst, _∙_}
 use mathlib.Core.WellFounded.{InvImage·wf}
 use mathlib.Core.List.{List, [], _∷_}

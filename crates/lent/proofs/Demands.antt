@@ -1,14 +1,12 @@
 -- What RULES 2 and 10 say of the entries over what is lent, in the terms of their contracts. `solve_rows` gives back `solveRows T A rows`.
 use mathlib.Core.Path.{_≡_, refl, ap}
-use mathlib.Core.Bool.{Bool, true, false}
 use mathlib.Core.Logic.{_↔_, _≢_}
 use mathlib.Core.List.{List, [], _∷_}
 use Prim.Native.Nat.{ℕ, _<_}
 use native.Mathlib.Omega.{arith}
-use lib.Dec.{eqb}
 use lib.ListN.{length}
 use lib.Ieee.{Float}
-use Rattle.float.specs.Operators.{if_then_else_}
+use Rattle.readings.proofs.Gives.{either}
 use Rattle.rows.specs.Constants.{mostRows}
 use Rattle.rows.specs.declared.Row.{Row}
 use Rattle.rows.specs.declared.Point.{Point}
@@ -34,12 +32,6 @@ unfolding rowsOf flatOf
 rows-of-floats [] = refl
 rows-of-floats (r ∷ rows) = ap {B = List Row} (λ l. r ∷ l) (rows-of-floats rows)
 
-either : (b : Bool) (x y : Ended (List Float)) → flatOf (rowsOf (x .rows)) ≡ x .rows → flatOf (rowsOf (y .rows)) ≡ y .rows
-    → flatOf (rowsOf ((if b then x else y) .rows)) ≡ (if b then x else y) .rows
-unfolding if_then_else_
-either true x y p q = p
-either false x y p q = q
-
 module _ (T : Task) (A : ℕ) (rows : List Row) where
   -- the refusal of the same floats, by its number
   abbrev refused : ℕ
@@ -55,7 +47,9 @@ module _ (T : Task) (A : ℕ) (rows : List Row) where
 
   pub same-floats : flatOf (solveRows T A rows .rows) ≡ solve T A (flatOf rows) .rows
   unfolding solveRows solve taken
-  same-floats = either (eqb refused 0) _ _ (ap flatOf (rows-of-floats (allowed T A (rowsOf (flatOf rows)) .rows))) (ap flatOf (rows-of-floats rows))
+  same-floats =
+      let whole : Ended (List Float) → Type 0 = λ e. flatOf (rowsOf (e .rows)) ≡ e .rows in
+      either whole _ (ap flatOf (rows-of-floats (allowed T A (rowsOf (flatOf rows)) .rows))) (ap flatOf (rows-of-floats rows))
 
   -- refusal 1 is never given
   pub never-one : number (solveRows T A rows .outcome) ≢ 1

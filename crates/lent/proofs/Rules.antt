@@ -1,6 +1,5 @@
--- Rules for walks, made of the kit's and named for what they do: a local is read, set and freed, plain data is had for nothing, a slice is lent on, and a
--- function
--- over plain data is called. Assumes `Given`.
+-- Rules for walks, made of the kit's and named for what they do: a local is read, set and freed, plain data is had for nothing, a slice is lent on,
+-- and a function over plain data is called. Assumes `Given`.
 use mathlib.Core.Path.{_≡_, refl, sym, ap, subst}
 use mathlib.Core.List.{List, [], _∷_}
 use Prim.Native.Nat.{ℕ, _+_, _*_, _<_, _^_}

@@ -1,6 +1,5 @@
--- `lent::set_first` and `lent::set_second`: one walk of the MIR that they share, by hand. The record is copied out of the open borrow, passed by value to the
--- core,
--- and what comes back is stored. Assumes `Given`.
+-- `lent::set_first` and `lent::set_second`: one walk of the MIR that they share, by hand. The record is copied out of the open borrow, passed by
+-- value to the core, and what comes back is stored. Assumes `Given`.
 use mathlib.Core.Path.{_≡_, refl}
 use mathlib.Core.List.{[], _∷_, List}
 use Prim.Native.Nat.{ℕ, _<_, _^_}

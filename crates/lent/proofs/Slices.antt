@@ -1,6 +1,5 @@
--- Slices that a walk lends for a call: elements in memory, or those of a `&κ mut [T]`, are lent or shown, and come back. A local array is its elements in
--- memory.
--- Assumes `Given`.
+-- Slices that a walk lends for a call: elements in memory, or those of a `&κ mut [T]`, are lent or shown, and come back. A local array is its
+-- elements in memory. Assumes `Given`.
 use mathlib.Core.Path.{_≡_, refl, sym, ap, subst, _∙_}
 use mathlib.Core.List.{List, [], _∷_}
 use Prim.Native.Nat.{ℕ}

@@ -1,6 +1,5 @@
--- `lent::solve_few` and `lent::solve_most`: one walk of the MIR that they share, by hand, at the size of the local array. The records are gathered into the
--- array, solved there, and scattered back.
--- Assumes `Given`.
+-- `lent::solve_few` and `lent::solve_most`: one walk of the MIR that they share, by hand, at the size of the local array. The records are gathered
+-- into the array, solved there, and scattered back. Assumes `Given`.
 use mathlib.Core.Path.{_≡_, refl, _∙_}
 use mathlib.Core.Bool.{Bool, true}
 use mathlib.Core.List.{List, [], _∷_}

@@ -4,13 +4,14 @@ use mathlib.Core.Logic.{_≢_}
 use mathlib.Core.List.{List}
 use Prim.Native.Nat.{ℕ, _/_, _%_, _≤_, _<_}
 use native.Mathlib.Omega.{arith}
-use borrow.Author.Tests.{eq-eqb, ne-eqb, lt-ltb, le-ltb}
+use borrow.Author.Tests.{eq-eqb, le-ltb}
 use lib.ListN.{length}
 use lib.Ieee.{Float}
 use Rattle.float.specs.Operators.{if_then_else_}
 use Rattle.rows.specs.Constants.{mostRows}
 use Rattle.rows.specs.declared.Point.{Point}
 use Rattle.rows.specs.Rows.{refusal, rowsOf}
+use Rattle.rows.proofs.Refusals.{refusal-0, refusal-1, refusal-2}
 use Rattle.step.specs.declared.Frame.{Frame}
 use Rattle.step.specs.declared.State.{State}
 use Rattle.step.specs.declared.Found.{Found}
@@ -33,23 +34,13 @@ module _ (flat : List Float) (upto : ℕ) (p : Point) (F : Frame) (coll : Collec
   abbrev found : Found
   found = recover (rowsOf flat) F upto (record { at = p; active = held coll }) .value
 
-  uneven : length flat % 3 ≢ 0 → refusal 3 (length flat) ≡ 1
-  unfolding refusal if_then_else_
-  uneven h = rw (ne-eqb _ _ h)
+  module _ (even : length flat % 3 ≡ 0) (few : lent ≤ mostRows) where
+    accepted : refusal 3 (length flat) ≡ 0
+    accepted = refusal-0 3 (length flat) .1 (even, few)
 
-  module _ (even : length flat % 3 ≡ 0) where
-    too-many : mostRows < lent → refusal 3 (length flat) ≡ 2
-    unfolding refusal if_then_else_
-    too-many h = rw (eq-eqb _ _ even, lt-ltb _ _ h)
-
-    module _ (few : lent ≤ mostRows) where
-      accepted : refusal 3 (length flat) ≡ 0
-      unfolding refusal if_then_else_
-      accepted = rw (eq-eqb _ _ even, le-ltb _ _ few)
-
-      recovers : upto ≤ lent → answer ≡ recovered coll found
-      unfolding recovering if_then_else_
-      recovers inside = rw (eq-eqb _ _ accepted, le-ltb _ _ inside)
+    recovers : upto ≤ lent → answer ≡ recovered coll found
+    unfolding recovering if_then_else_
+    recovers inside = rw (eq-eqb _ _ accepted, le-ltb _ _ inside)
 
   -- Refusals 1, 2, 7 and 6, in that order: each is given where its own case holds and none before it does, and the point with the collector where
   -- none holds.
@@ -61,8 +52,8 @@ module _ (flat : List Float) (upto : ℕ) (p : Point) (F : Frame) (coll : Collec
       × (length flat % 3 ≡ 0 → lent ≤ mostRows → upto ≤ lent → (s : State) → found ≡ Done s → answer ≡ At (s .at) (collected coll (s .active)))
   unfolding recovered
   refuses-in-order = (
-    λ h. sym (entry-refuses flat upto p F coll (sym (uneven h)) (λ e. omega arith)),
-    λ even h. sym (entry-refuses flat upto p F coll (sym (too-many even h)) (λ e. omega arith)),
+    λ h. sym (entry-refuses flat upto p F coll (sym (refusal-1 3 (length flat) .1 h)) (λ e. omega arith)),
+    λ even h. sym (entry-refuses flat upto p F coll (sym (refusal-2 3 (length flat) .1 (even, h))) (λ e. omega arith)),
     λ even few h. sym (prefix-too-long flat upto p F coll (sym (accepted even few)) (omega arith) h),
     λ even few inside e. recovers even few inside ∙ ap (recovered coll) e,
     λ even few inside s e. recovers even few inside ∙ ap (recovered coll) e,

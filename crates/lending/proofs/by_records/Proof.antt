@@ -1,6 +1,5 @@
--- `lending::by_records` meets its contract: a walk of its MIR, by hand. The first n elements of the local array are lent to `solve_rows`, and come back to the
--- others.
--- Assumes nothing.
+-- `lending::by_records` meets its contract: a walk of its MIR, by hand. The first n elements of the local array are lent to `solve_rows`, and come
+-- back to the others. Assumes nothing.
 use mathlib.Core.Path.{_≡_, refl, _∙_}
 use mathlib.Core.List.{List, [], _∷_, _++_, map}
 use Prim.Native.Nat.{ℕ, _+_, _<_, _≤_, _^_}

@@ -1,6 +1,5 @@
--- `lending::collecting` meets its contract: a walk of its MIR, by hand. The floats go to `solve_collecting` for good, and the collector is lent to it and comes
--- back.
--- Assumes nothing.
+-- `lending::collecting` meets its contract: a walk of its MIR, by hand. The floats go to `solve_collecting` for good, and the collector is lent to it
+-- and comes back. Assumes nothing.
 use mathlib.Core.Path.{_≡_, refl}
 use mathlib.Core.List.{List, [], _∷_}
 use Prim.Native.Nat.{ℕ, _<_, _^_}

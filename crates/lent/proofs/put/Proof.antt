@@ -1,6 +1,5 @@
--- `lent::put` meets its contract: a walk of its MIR, by hand. The borrow is opened, row i is taken out of the row of rows and stored to, and the borrow is
--- closed at the list with r at i.
--- Assumes nothing.
+-- `lent::put` meets its contract: a walk of its MIR, by hand. The borrow is opened, row i is taken out of the row of rows and stored to, and the
+-- borrow is closed at the list with r at i. Assumes nothing.
 use mathlib.Core.Path.{refl, sym, ap, subst}
 use Prim.Native.Nat.{ℕ, _<_, _^_, _*_}
 use mathlib.Core.List.{List, [], _∷_}

@@ -1,6 +1,5 @@
--- `lent::recover_collecting` meets its contract: a walk of its MIR, by hand. The record is copied out of the open borrow and passed by value to `recovering`,
--- and what `remains` makes of the answer is stored.
--- Assumes nothing.
+-- `lent::recover_collecting` meets its contract: a walk of its MIR, by hand. The record is copied out of the open borrow and passed by value to
+-- `recovering`, and what `remains` makes of the answer is stored. Assumes nothing.
 use mathlib.Core.Path.{_≡_, refl, ap, _∙_}
 use Prim.Native.Nat.{ℕ, _<_, _^_}
 use mathlib.Core.List.{[], _∷_, List}

@@ -1,6 +1,5 @@
--- `lent::solve_collecting` meets its contract: a walk of its MIR, by hand. The floats go to `solve` for good, and what `kept` makes of the outcome and the
--- record is stored behind the open borrow.
--- Assumes nothing.
+-- `lent::solve_collecting` meets its contract: a walk of its MIR, by hand. The floats go to `solve` for good, and what `kept` makes of the outcome
+-- and the record is stored behind the open borrow. Assumes nothing.
 use mathlib.Core.Path.{_≡_, refl, ap, _∙_}
 use Prim.Native.Nat.{ℕ, _<_, _^_}
 use mathlib.Core.List.{[], _∷_, List}

@@ -1,6 +1,5 @@
--- `lent::solve_rows` meets its contract: a walk of its MIR, by hand, with two branches. More than 4,096 records are refused, and any others go for good to the
--- function whose array has room for their floats.
--- Assumes nothing.
+-- `lent::solve_rows` meets its contract: a walk of its MIR, by hand, with two branches. More than 4,096 records are refused, and any others go for
+-- good to the function whose array has room for their floats. Assumes nothing.
 use mathlib.Core.Path.{_≡_, refl, sym, ap, subst, _∙_}
 use mathlib.Core.Bool.{Bool, true, false, not}
 use mathlib.Core.List.{List, [], _∷_}
