@@ -430,7 +430,7 @@ pub extern "C" fn ravelsickle_solve(rows: &mut [f64], task: SolveTask) -> Solved
 fn unsolved_rows(n: usize, mode: u64) -> Solved
     ensures { λ s. ⌜ s ≡ unsolved (orTen (refusal 3 (3 * n)) mode) 0 ⌝ }
 {
-    if n > 4096 {
+    if n > rows::MOST_ROWS {
         return unsolved(2, 0);
     }
     unsolved(or_ten(0, mode), 0)

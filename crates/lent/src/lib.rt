@@ -19,9 +19,6 @@ ghost use Rattle.recover.specs.Recover.{recovering};
 ghost use Rattle.solve.specs.Solve.{solve};
 ghost use Rattle.lent.specs.Lent.{kept, answered, remains, fewRows, tooMany, solveRows};
 
-// The most rows that are taken.
-const MOST: usize = 4096;
-
 // The most rows that go by way of the small array, which costs little to make.
 const FEW: usize = 64;
 
@@ -231,7 +228,7 @@ fn solve_most(rows: &mut [Row], task: Task, allowance: u64) -> Outcome
     ensures answer { λ r. ⌜ r ≡ solveRows task allowance (now (rows .entry)) .outcome ⌝ }
     ensures lent { λ _. ⌜ now (rows .exit) ≡ solveRows task allowance (now (rows .entry)) .rows ⌝ }
 {
-    let mut flat = [0.0; 3 * MOST];
+    let mut flat = [0.0; 3 * rows::MOST_ROWS];
     let n = rows.len();
     gather(rows, &mut flat, n);
     let outcome = solve_first(&mut flat, n, task, allowance);
@@ -243,7 +240,7 @@ fn solve_most(rows: &mut [Row], task: Task, allowance: u64) -> Outcome
 fn refusal(n: usize) -> u64
     ensures { λ r. ⌜ r ≡ tooMany n ⌝ }
 {
-    if n > MOST { 2 } else { 0 }
+    if n > rows::MOST_ROWS { 2 } else { 0 }
 }
 
 // Whether so many rows go by way of the small array.

@@ -5,6 +5,9 @@ ghost use lib.ListN.{length, set};
 ghost use Rattle.rows.specs.Rows.{rowsOf, flatOf, rowAt, refusal, residual, noBoundary, normalizedBy, normalized};
 ghost use Rattle.rows.specs.Rows.{normalizing, normalizedFlat, singular, crossing};
 
+// The most rows, or pairs, that are taken.
+pub const MOST_ROWS: usize = 4096;
+
 // a*x + b*y <= c; for `solve_2x2`, a*x + b*y = c.
 #[repr(C)]
 pub struct Row {
@@ -38,7 +41,7 @@ pub fn refusal(width: usize, floats: usize) -> u64
     if floats % width != 0 {
         return 1;
     }
-    if floats / width > 4096 {
+    if floats / width > MOST_ROWS {
         return 2;
     }
     0
