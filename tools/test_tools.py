@@ -1405,7 +1405,9 @@ pub m :
             ("**2.1**", "**1.3**", ["10: 1.3 stands where 2.1 is next"]),
             ("## 2.", "## 3.", ["8: 3 stands where 2 is next"]),
             ("**1.2**", "**1.1**", ["5: there is no 1.2 in docs/RULES.md", "6: 1.1 stands where 1.2 is next"]),
-            ("Of two.", "Of two (0.5 each, as 7.5).", []),
+            ("Of two.", "Of two, as 1.1 and section 2 say: 3*7.5, 0.5, -7.5, 7.5e3, `7.5`.", []),
+            ("Of two.", "Of two, by 7.5.", ["6: there is no 7.5 in docs/RULES.md"]),
+            ("Of two.", "Of two (section 3).", ["6: there is no 3 in docs/RULES.md"]),
         ]:
             with self.subTest(new=new):
                 self.put("docs/RULES.md", self.PARAGRAPHS)

@@ -24,7 +24,7 @@ const USAGE: &str = "compare [options]
   --rowrun PROGRAM   the program that is fed damaged streams
   --no-rowrun        leave the program out
   --no-vectors       leave the vectors out
-  --spoil            change one bit of the kernel's answers: every family must find it
+  --spoil            change one bit of the library's answers: every family but vectors and rowrun-streams must find it
   --signalling       give the original signalling NaNs even where this processor's max passes them on
   --branches         how often each branch of the original was taken";
 

@@ -23,7 +23,7 @@ ghost use Rattle.solve.specs.Solve.{solve};
 ghost use Rattle.lent.specs.Lent.{kept, answered, remains, solveRows};
 
 // One row more than is taken.
-const ROWS: usize = 4097;
+const ROWS: usize = rows::MOST_ROWS + 1;
 
 // ---- each of these lends a record or rows to entries of `lent`, and gives back what they leave
 
@@ -467,6 +467,30 @@ fn main() {
     recovers(b"two rows of one", &one, 2, from, frame, rows_5_9());
     recovers(b"two floats", &[2.0, 2.0], 0, from, frame, rows_5_9());
     recovers(b"4097 rows", &[0.0; 3 * ROWS], 0, from, frame, rows_5_9());
+    // As many rows as are taken, of which the last alone bounds y.
+    let mut most = [0.0; 3 * rows::MOST_ROWS];
+    rows::put_row(
+        &mut most,
+        rows::MOST_ROWS - 1,
+        Row {
+            a: 0.0,
+            b: 1.0,
+            c: 5.0,
+        },
+    );
+    collects(b"4096 rows", &mut most, 1000000);
+    recovers(
+        b"4096 rows",
+        &most,
+        rows::MOST_ROWS,
+        Point { x: 0.0, y: 1e6 },
+        Frame {
+            bound: 1e6,
+            epsilon: 1e-9,
+            reduced: 1e-8,
+        },
+        rows_5_9(),
+    );
     compares(2, Normalize::Off, 1000000);
     compares(64, Normalize::Off, 1000000);
     compares(65, Normalize::Source, 1000000);
