@@ -1,20 +1,23 @@
 -- Laws of what a whole input prints: a first record that is all there prints its line, and then what the rest prints; one that is not ends it.
-use mathlib.Core.Path.{_≡_, refl, sym, ap, _∙_}
-use mathlib.Core.Bool.{true, false, not, and-false, true≢false}
+use mathlib.Core.Path.{_≡_, refl, sym, ap, ap₂, _∙_}
+use mathlib.Core.Bool.{true, false, not, and-false}
 use mathlib.Core.List.{List, [], _∷_, _++_}
-use Prim.Native.Nat.{ℕ, zero, suc, _+_, _≤_, _<_, _^_}
+use Prim.Native.Nat.{ℕ, zero, suc, _+_, _≤_, _<_}
 use native.Mathlib.Decide.{decLe}
 use native.Mathlib.Omega.{arith}
 use lib.Dec.{ltb, eqb·suc-zero}
 use borrow.Author.Tests.{lt-ltb, le-ltb}
-use lib.ListN.{length, take, drop, length-drop}
+use lib.ListN.{length, take, drop, length-append, length-drop}
+use lib.Seq.{drop-append-seam}
 use Rattle.float.specs.Operators.{if_then_else_}
+use Rattle.solve.specs.declared.Outcome.{Outcome}
 use Rattle.text.specs.Lines.{outcomeLine}
 use Rattle.record.specs.Sizes.{headerBytes}
 use Rattle.record.specs.Record.{size, outcome}
 use Rattle.reader.specs.Stream.{whole, ending, printed, output}
+use Rattle.reader.specs.declared.Link.{Link}
 use Rattle.reader.specs.Reader.{lastText}
-use Rattle.reader.proofs.Held.{reading}
+use Rattle.reader.proofs.Alike.{more-size, more-outcome}
 
 -- ---- whether the first record is all there
 
@@ -27,15 +30,9 @@ module _ (bytes : List ℕ) where
   unfolding whole
   is-whole h = rw (le-ltb (length bytes) headerBytes (omega (arith, has-header)), le-ltb (length bytes) (size bytes) h)
 
-  pub is-cut : length bytes < size bytes → whole bytes ≡ false
+  is-cut : length bytes < size bytes → whole bytes ≡ false
   unfolding whole
   is-cut h = rw (lt-ltb (length bytes) (size bytes) h) (and-false (not (ltb (length bytes) headerBytes)))
-
-  pub was-whole : whole bytes ≡ true → size bytes ≤ length bytes
-  was-whole e = elim (decLe (size bytes) (length bytes)) [ yes h ↦ h | no h ↦ absurd (true≢false (sym e ∙ is-cut (omega arith))) ]
-
-  pub was-cut : whole bytes ≡ false → length bytes < size bytes
-  was-cut e = elim (decLe (size bytes) (length bytes)) [ yes h ↦ absurd (true≢false (sym (is-whole h) ∙ e)) | no h ↦ omega arith ]
 
 -- ---- with so many turns
 
@@ -77,7 +74,7 @@ abbrev pub prints : ℕ → List ℕ → List ℕ
 prints n bytes = printed (length bytes) n bytes
 
 module _ (n : ℕ) (bytes : List ℕ) where
-  pub prints-whole : size bytes ≤ length bytes → prints n bytes ≡ outcomeLine (n + 1) (outcome bytes) ++ prints (n + 1) (drop (size bytes) bytes)
+  prints-whole : size bytes ≤ length bytes → prints n bytes ≡ outcomeLine (n + 1) (outcome bytes) ++ prints (n + 1) (drop (size bytes) bytes)
   prints-whole h =
       let rest = drop (size bytes) bytes in
       let later = enough (length bytes) (length rest) (n + 1) rest (omega (arith, length-drop (size bytes) bytes)) (omega arith) in
@@ -88,12 +85,22 @@ module _ (n : ℕ) (bytes : List ℕ) where
   pub prints-cut : length bytes < size bytes → prints n bytes ≡ ending n bytes
   prints-cut h = printed-cut (length bytes) n bytes h
 
-pub output-prints : (input : List ℕ) → output input ≡ prints 0 (take (2 ^ 63) input)
+-- a record that is all there, with bytes behind it
+pub prints-first : (n : ℕ) (bytes rest : List ℕ) → size bytes ≡ length bytes
+    → prints n (bytes ++ rest) ≡ outcomeLine (n + 1) (outcome bytes) ++ prints (n + 1) rest
+prints-first n bytes rest all =
+    let longer = length-append bytes rest in
+    let same = more-size bytes rest (omega (arith, has-header bytes)) in
+    let behind = ap (λ k. drop k (bytes ++ rest)) (same ∙ all) ∙ drop-append-seam bytes rest in
+    prints-whole n (bytes ++ rest) (omega arith)
+    ∙ ap₂ (λ (o : Outcome) (l : List ℕ). outcomeLine (n + 1) o ++ prints (n + 1) l) (more-outcome bytes rest (omega arith)) behind
+
+pub output-prints : (limit : ℕ) (input : List ℕ) → output limit input ≡ prints 0 (take limit input)
 unfolding output
-output-prints input = refl
+output-prints limit input = refl
 
 -- where the input ends, the reader prints what is printed there
-pub ends : (n : ℕ) (seen : List ℕ) → lastText (reading n seen) ≡ ending n seen
+pub last-is-ending : (link : Link) (seen : List ℕ) → link .passed ≡ length seen → lastText link ≡ ending (link .lines) seen
 unfolding lastText ending if_then_else_
-ends n [] = refl
-ends n (b ∷ seen) = rw (eqb·suc-zero (length seen))
+last-is-ending link [] all = rw all
+last-is-ending link (b ∷ seen) all = rw (all, eqb·suc-zero (length seen))

@@ -1,175 +1,157 @@
--- One turn of a reader that holds what it has seen of a record that is not all there: with the portion's bytes it is all there, and its line is
--- printed; or it is not, and all of the portion is taken.
-use mathlib.Core.Path.{_≡_, sym, ap, ap₂, _∙_, subst}
-use mathlib.Core.Bool.{Bool, true, false}
-use mathlib.Core.List.{List, [], _++_, append-assoc}
-use Prim.Native.Nat.{ℕ, _+_, _-_, _≤_, _<_, min}
+-- A turn: bytes of a portion take their places up to the record's end. Where the record is then all there, it ends with the last of them; where it is
+-- not, all of them that count were placed, and those behind change nothing.
+use mathlib.Core.Path.{_≡_, refl, sym, ap, _∙_, subst}
+use mathlib.Core.Bool.{Bool, true, false, true≢false}
+use mathlib.Core.List.{List, [], _∷_, _++_, append-nil}
+use Prim.Native.Nat.{ℕ, _+_, _-_, _≤_, min}
 use native.Mathlib.Decide.{decLe}
+use native.Mathlib.Nat.{zero-add, sub-zero}
+use native.Mathlib.Numerals.{one-add}
 use native.Mathlib.Omega.{arith}
-use lib.ListN.{length, take, drop, length-append, length-drop, take-append-drop}
-use lib.Seq.{take-append-le, take-length}
+use lib.ListN.{length, take, drop, length-append, take-append-drop, drop-of-length-le}
+use lib.Seq.{length-take-le}
 use Rattle.float.specs.Operators.{if_then_else_}
-use Rattle.text.specs.Lines.{outcomeLine}
-use Rattle.record.specs.Sizes.{headerBytes}
-use Rattle.record.specs.Record.{size, outcome}
-use Rattle.reader.specs.Stream.{whole}
-use Rattle.reader.specs.declared.Reader.{Reader}
-use Rattle.reader.specs.Reader.{kept, unfinished, toHeader, heldHeader, taken, heldAfter, passedOn, readerAfter, text}
-use Rattle.reader.proofs.Kept.{keeps-record}
-use Rattle.reader.proofs.Progress.{lacks-header, lacks-body, lacks-nothing, header-within, body-later, body-now, takes-no-more, length-after}
-use Rattle.reader.proofs.Alike.{same-size, same-kept, same-outcome}
-use Rattle.reader.proofs.Held.{reading, Holds, holds-nothing, begins, held-size, more-size, length-more, holds-header, holds-after}
-use Rattle.reader.proofs.Printed.{has-header, was-whole, was-cut}
+use Rattle.reader.specs.Reader.{State, state, unfinished, placed, lineOf, turned, after, text, afterAll, texts, upToEnd}
+use Rattle.reader.specs.Parts.{placedUp}
+use Rattle.reader.proofs.Byte.{lacking, uncounted, goes-on, is-there}
+use Rattle.reader.proofs.Bytes.{afterAll-append, texts-append}
 
--- ---- a turn by whether the record is then all there
+-- a byte that prints nothing, and others behind it
+behind-it : (s : State) (b : ℕ) {t : State} (bytes : List ℕ) → after s b ≡ t → text s b ≡ []
+    → (afterAll s (b ∷ bytes) ≡ afterAll t bytes) × (texts s (b ∷ bytes) ≡ texts t bytes)
+unfolding afterAll texts
+behind-it s b bytes left silent = (rw left, rw (silent, left))
 
-module _ (reader : Reader) (held portion : List ℕ) where
-  abbrev pub lacking-then : Bool
-  lacking-then = unfinished (passedOn reader held portion) (heldAfter reader held portion)
+-- ---- bytes that do not count
 
-  pub reader-on : lacking-then ≡ true → readerAfter reader held portion ≡ passedOn reader held portion
-  unfolding readerAfter if_then_else_
-  reader-on u = rw u
+idle : (s : State) (bytes : List ℕ) → s .link .left ≡ 0 → (afterAll s bytes ≡ s) × (texts s bytes ≡ []) × (upToEnd s bytes ≡ length bytes)
+unfolding afterAll texts upToEnd if_then_else_
+idle s [] none = (refl, refl, refl)
+idle s (b ∷ bytes) none =
+    let one = uncounted s b none in
+    let on = behind-it s b bytes (one .1) (one .2) in
+    let behind = idle s bytes none in
+    (on .0 ∙ behind .0, on .1 ∙ behind .1, rw (one .0, one .1, behind .2) (one-add (length bytes)))
 
-  pub reader-next : lacking-then ≡ false → readerAfter reader held portion ≡ record { lines = reader .lines + 1; passed = 0 }
-  unfolding readerAfter if_then_else_
-  reader-next u = rw u
+-- ---- bytes up to the record's end
 
-  pub no-text : lacking-then ≡ true → text reader held portion ≡ []
-  unfolding text if_then_else_
-  no-text u = rw u
+pub same-lines : (s : State) (bytes : List ℕ) → (placedUp s bytes .link .live ≡ s .link .live) × (placedUp s bytes .link .lines ≡ s .link .lines)
+unfolding state placed placedUp if_then_else_
+same-lines s [] = (refl, refl)
+same-lines s (b ∷ bytes) = go (lacking s b) (same-lines (placed s b) bytes)
+  where
+    Same : State → Type 0
+    Same t = (t .link .live ≡ s .link .live) × (t .link .lines ≡ s .link .lines)
 
-  pub some-text : lacking-then ≡ false → text reader held portion ≡ outcomeLine (reader .lines + 1) (outcome (heldAfter reader held portion))
-  unfolding text if_then_else_
-  some-text u = rw u
+    go : (l : Bool) → Same (placedUp (placed s b) bytes) → Same (if l then placedUp (placed s b) bytes else placed s b)
+    go true behind = behind
+    go false behind = (refl, refl)
 
--- ---- the bytes seen with some of a portion begin as with all of it
+pub up-passed : (s : State) (bytes : List ℕ) → s .link .passed ≤ placedUp s bytes .link .passed
+unfolding state placed placedUp if_then_else_
+up-passed s [] = omega arith
+up-passed s (b ∷ bytes) = go (lacking s b) (up-passed (placed s b) bytes)
+  where
+    t : State
+    t = placedUp (placed s b) bytes
 
-module _ (seen portion : List ℕ) (k : ℕ) where
-  abbrev some : List ℕ
-  some = seen ++ take k portion
+    go : (l : Bool) → s .link .passed + 1 ≤ t .link .passed → s .link .passed ≤ (if l then t else placed s b) .link .passed
+    go true more = omega arith
+    go false more = omega arith
 
-  some-first : (j : ℕ) → j ≤ length some → take j some ≡ take j (seen ++ portion)
-  some-first j h =
-      sym (take-append-le j some (drop k portion) h)
-      ∙ ap (take j) (append-assoc seen (take k portion) (drop k portion) ∙ ap (λ (l : List ℕ). seen ++ l) (take-append-drop k portion))
+abbrev lacks-some : State → Bool
+lacks-some s = unfinished (s .link .passed) (s .head)
 
-  some-size : headerBytes ≤ length some → size some ≡ size (seen ++ portion)
-  some-size there = same-size headerBytes some (seen ++ portion) (some-first headerBytes there) (omega arith)
+-- the record is then not all there
+module _ (s : State) where
+  abbrev AllPlaced : List ℕ → State → Type 0
+  AllPlaced bytes u =
+      (afterAll s bytes ≡ u)
+      × (texts s bytes ≡ [])
+      × (u .link .left ≡ s .link .left - length bytes)
+      × ((more : List ℕ) → upToEnd s (bytes ++ more) ≡ length bytes + upToEnd u more)
 
-  some-kept : headerBytes ≤ length some → kept some ≡ kept (seen ++ portion)
-  some-kept there = same-kept headerBytes some (seen ++ portion) (some-first headerBytes there) (omega arith)
+all-placed : (s : State) (bytes : List ℕ) → length bytes ≤ s .link .left → lacks-some (placedUp s bytes) ≡ true → AllPlaced s bytes (placedUp s bytes)
+unfolding state placed placedUp afterAll texts upToEnd if_then_else_
+all-placed s [] few u = (refl, refl, sym (sub-zero (s .link .left)), λ more. sym (zero-add (upToEnd s more)))
+all-placed s (b ∷ bytes) few u = go (lacking s b) refl u (all-placed (placed s b) bytes (omega arith))
+  where
+    t : State
+    t = placed s b
 
--- ---- of such a reader
+    go : (l : Bool) → lacking s b ≡ l → lacks-some (if l then placedUp t bytes else t) ≡ true
+        → (lacks-some (placedUp t bytes) ≡ true → AllPlaced t bytes (placedUp t bytes)) → AllPlaced s (b ∷ bytes) (if l then placedUp t bytes else t)
+    go true e u rest =
+        let one = goes-on s b (omega arith) e in
+        let on = behind-it s b bytes (one .1) (one .2) in
+        let behind = rest u in (
+          on .0 ∙ behind .0,
+          on .1 ∙ behind .1,
+          omega (arith, behind .2),
+          λ more. rw (one .0, one .1, behind .3 more) (omega arith),
+        )
+    go false e u rest = absurd (true≢false (sym u ∙ e))
 
--- f bytes, and then what lacks and is there
-two-parts : (L P S f : ℕ) → L + f ≤ S → f ≤ P → f + min (S - (L + f)) (P - f) ≡ min (S - L) P
-two-parts L P S f within there = omega arith
+-- the record is then all there, and n of these bytes end it
+module _ (s : State) where
+  abbrev Ends : List ℕ → State → ℕ → Type 0
+  Ends bytes u n = (s .link .passed + n ≡ u .link .passed) × (afterAll s (take n bytes) ≡ turned u) × (texts s (take n bytes) ≡ lineOf u)
 
-module _ (n : ℕ) (seen held portion : List ℕ) (holds : Holds seen held) (cut : whole seen ≡ false) where
-  abbrev more : List ℕ
-  more = seen ++ portion
+record-ends : (s : State) (bytes more : List ℕ) → length bytes ≤ s .link .left → lacks-some s ≡ true → lacks-some (placedUp s bytes) ≡ false
+    → Ends s (bytes ++ more) (placedUp s bytes) (upToEnd s (bytes ++ more))
+unfolding state placed placedUp afterAll texts upToEnd if_then_else_
+record-ends s [] more few begun u = absurd (true≢false (sym begun ∙ u))
+record-ends s (b ∷ bytes) more few begun u = go (lacking s b) refl u (record-ends (placed s b) bytes more (omega arith))
+  where
+    t : State
+    t = placed s b
 
-  abbrev took : ℕ
-  took = taken (reading n seen) held portion
+    go : (l : Bool) → lacking s b ≡ l → lacks-some (if l then placedUp t bytes else t) ≡ false
+        → (lacks-some t ≡ true → lacks-some (placedUp t bytes) ≡ false → Ends t (bytes ++ more) (placedUp t bytes) (upToEnd t (bytes ++ more)))
+        → Ends s (b ∷ (bytes ++ more)) (if l then placedUp t bytes else t) (upToEnd s (b ∷ (bytes ++ more)))
+    go true e u rest =
+        let one = goes-on s b (omega arith) e in
+        let n = upToEnd t (bytes ++ more) in
+        let on = behind-it s b (take n (bytes ++ more)) (one .1) (one .2) in
+        let behind = rest e u in
+        rw (one .0, one .1, one-add n) (omega (arith, behind .0), on .0 ∙ behind .1, on .1 ∙ behind .2)
+    go false e u rest =
+        let last = is-there s b (omega arith) e in
+        rw (last .0) (refl, last .1, rw (last .2) (append-nil (lineOf t)))
 
-  abbrev after : List ℕ
-  after = heldAfter (reading n seen) held portion
+-- ---- a portion, of which as many bytes count as may still come
 
-  long : length more ≡ length seen + length portion
-  long = length-append seen portion
+module _ (s : State) (bytes : List ℕ) (n : ℕ) (counted : n ≡ min (length bytes) (s .link .left)) where
+  abbrev u : State
+  u = placedUp s (take n bytes)
 
-  pub before-end : length seen < size more
-  before-end =
-      elim (decLe headerBytes (length seen)) [
-        | yes there ↦ omega (arith, was-cut seen cut, more-size seen portion there)
-        | no short ↦ omega (arith, has-header more)
+  abbrev rest : List ℕ
+  rest = drop n bytes
+
+  abbrev cut : take n bytes ++ rest ≡ bytes
+  cut = take-append-drop n bytes
+
+  long : length (take n bytes) ≡ n
+  long = length-take-le n bytes (omega arith)
+
+  none-behind : u .link .left ≡ s .link .left - n → (afterAll u rest ≡ u) × (texts u rest ≡ []) × (upToEnd u rest ≡ length rest)
+  unfolding afterAll texts upToEnd
+  none-behind left =
+      elim (decLe (length bytes) (s .link .left)) [
+        | yes all ↦ rw (drop-of-length-le bytes {i = n} (omega arith)) (refl, refl, refl)
+        | no some ↦ idle u rest (omega arith)
       ]
 
-  -- it takes bytes up to the end of the record, as far as there are some
-  took-is : took ≡ min (size more - length seen) (length portion)
-  unfolding taken toHeader
-  took-is =
-      let first = toHeader (length seen) portion in
-      let held′ = heldHeader (length seen) held portion in
-      let rest = drop first portion in
-      let left = length-drop first portion in
-      let header = has-header more in
-      let seen-first = length-more seen portion first (header-within (length seen) held portion) in
-      elim (decLe headerBytes (length more)) [
-        | yes there ↦
-            let enough : headerBytes ≤ length (seen ++ take first portion) = omega (arith, long) in
-            let same = held-size (seen ++ take first portion) held′ (holds-header seen held portion holds) enough ∙ some-size seen portion first enough in
-            ap (λ b. first + b) (body-now (length seen + first) held′ rest (omega (arith, long)) ∙ ap₂ (λ x y. min (x - (length seen + first)) y) same left)
-            ∙ two-parts (length seen) (length portion) (size more) first (omega (arith, before-end)) (omega arith)
-        | no short ↦
-            let none = body-later (length seen + first) held′ rest (omega (arith, long)) in
-            omega (arith, long)
-      ]
+  pub part-turn : lacks-some u ≡ true → (upToEnd s bytes ≡ length bytes) × (afterAll s bytes ≡ u) × (texts s bytes ≡ [])
+  part-turn part =
+      let first = all-placed s (take n bytes) (omega (arith, long)) part in
+      let behind = none-behind (first .2 ∙ ap (λ k. s .link .left - k) long) in
+      subst (λ l. (upToEnd s l ≡ length l) × (afterAll s l ≡ u) × (texts s l ≡ [])) cut (
+        first .3 rest ∙ ap (λ k. length (take n bytes) + k) (behind .2) ∙ sym (length-append (take n bytes) rest),
+        afterAll-append s (take n bytes) rest ∙ ap (λ (t : State). afterAll t rest) (first .0) ∙ behind .0,
+        texts-append s (take n bytes) rest ∙ rw (first .1, first .0) (behind .1),
+      )
 
-  seen-now : length (seen ++ take took portion) ≡ length seen + took
-  seen-now = length-more seen portion took (takes-no-more (reading n seen) held portion)
-
-  size-now : headerBytes ≤ length (seen ++ take took portion) → size after ≡ size more
-  size-now there = held-size (seen ++ take took portion) after (holds-after n seen held portion holds) there ∙ some-size seen portion took there
-
-  -- ---- the record is then all there
-
-  module _ (all : whole more ≡ true) where
-    pub took-record : took ≡ size more - length seen
-    took-record = omega (arith, took-is, long, was-whole more all)
-
-    to-end : length (seen ++ take took portion) ≡ size more
-    to-end = omega (arith, seen-now, took-record, before-end)
-
-    there : headerBytes ≤ length (seen ++ take took portion)
-    there = omega (arith, to-end, has-header more)
-
-    finished : unfinished (passedOn (reading n seen) held portion) after ≡ false
-    unfolding passedOn
-    finished = lacks-nothing (passedOn (reading n seen) held portion) after (omega (arith, there, seen-now)) (omega (arith, seen-now, to-end, size-now there))
-
-    same-kept-bytes : take (kept more) more ≡ take (kept more) after
-    same-kept-bytes =
-        let now = seen ++ take took portion in
-        let few : kept more ≤ length now = omega (arith, keeps-record more, to-end) in
-        sym (some-first seen portion took (kept more) few)
-        ∙ sym (begins now after (holds-after n seen held portion holds) (kept more) few (omega (arith, some-kept seen portion took there)))
-
-    pub line : text (reading n seen) held portion ≡ outcomeLine (n + 1) (outcome more)
-    line = some-text (reading n seen) held portion finished ∙ ap (outcomeLine (n + 1)) (sym (same-outcome more after same-kept-bytes))
-
-    pub next : readerAfter (reading n seen) held portion ≡ reading (n + 1) []
-    next = reader-next (reading n seen) held portion finished
-
-    pub holds-next : Holds [] after
-    holds-next = holds-nothing after (length-after (reading n seen) held portion (holds .room))
-
-  -- ---- it is not
-
-  module _ (part : whole more ≡ false) where
-    pub took-all : took ≡ length portion
-    took-all = omega (arith, took-is, long, was-cut more part)
-
-    all-seen : seen ++ take took portion ≡ more
-    all-seen = ap (λ (l : List ℕ). seen ++ l) (ap (λ k. take k portion) took-all ∙ take-length portion)
-
-    pub holds-more : Holds more after
-    holds-more = subst (λ l. Holds l after) all-seen (holds-after n seen held portion holds)
-
-    lacking : unfinished (passedOn (reading n seen) held portion) after ≡ true
-    unfolding passedOn
-    lacking =
-        elim (decLe headerBytes (length more)) [
-          | yes there ↦
-              let same = held-size more after holds-more there in
-              lacks-body (passedOn (reading n seen) held portion) after (omega (arith, took-all, long, was-cut more part, same))
-          | no short ↦ lacks-header (passedOn (reading n seen) held portion) after (omega (arith, took-all, long))
-        ]
-
-    pub silent : text (reading n seen) held portion ≡ []
-    silent = no-text (reading n seen) held portion lacking
-
-    pub goes-on : readerAfter (reading n seen) held portion ≡ reading n more
-    unfolding passedOn
-    goes-on = reader-on (reading n seen) held portion lacking ∙ ap (λ k. record { lines = n; passed = k }) (omega (arith, took-all, long))
+  pub whole-turn : lacks-some s ≡ true → lacks-some u ≡ false → Ends s bytes u (upToEnd s bytes)
+  whole-turn begun whole =
+      subst (λ l. Ends s l u (upToEnd s l)) cut (record-ends s (take n bytes) rest (omega (arith, long)) begun whole)

@@ -1,2 +1,4 @@
 pub mod Stream
 pub mod Reader
+pub mod Parts
+pub mod Runs

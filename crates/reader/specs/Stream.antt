@@ -1,5 +1,5 @@
--- What `rowrun` prints for a whole input: a line for each record, and the closing count. Assumes nothing.
-use Prim.Native.Nat.{ℕ, zero, suc, _+_, _^_}
+-- What is printed for a whole input: a line for each record, and the closing count. Assumes nothing.
+use Prim.Native.Nat.{ℕ, zero, suc, _+_}
 use mathlib.Core.Bool.{Bool, not, _&&_}
 use mathlib.Core.List.{List, [], _∷_, _++_}
 use lib.Dec.{ltb}
@@ -26,6 +26,6 @@ printed (suc turns) n bytes =
     let rest = printed turns (n + 1) (drop (size bytes) bytes) in
     if whole bytes then outcomeLine (n + 1) (outcome bytes) ++ rest else ending n bytes
 
--- bytes past the first 2^63 count as not there
-unfoldable pub output : List ℕ → List ℕ
-output input = let bytes = take (2 ^ 63) input in printed (length bytes) 0 bytes
+-- bytes past the first `limit` count as not there
+unfoldable pub output : ℕ → List ℕ → List ℕ
+output limit input = let bytes = take limit input in printed (length bytes) 0 bytes

@@ -1,5 +1,5 @@
 -- A field is the field of its first bytes and that of the others, above it; and floats that lie in a row, one more at the end. Assumes nothing.
-use mathlib.Core.Path.{_≡_, refl}
+use mathlib.Core.Path.{_≡_, refl, ap}
 use mathlib.Core.List.{List, [], _∷_, _++_}
 use Prim.Native.Nat.{ℕ, zero, suc, _+_, _*_, _^_, _<_}
 use native.Mathlib.Nat.{zero-add, suc-add, mul-assoc, pow-succ'}
@@ -30,6 +30,11 @@ field-one (suc at) (b ∷ bytes) = field-one at bytes
 
 -- ---- floats
 
+pub length-floats : (n : ℕ) (bytes : List ℕ) → length (floats n bytes) ≡ n
+unfolding floats
+length-floats zero bytes = refl
+length-floats (suc n) bytes = ap suc (length-floats n (drop 8 bytes))
+
 float-past : (n at : ℕ) (bytes : List ℕ) → float at (drop n bytes) ≡ float (n + at) bytes
 unfolding float field
 float-past n at bytes = rw drop-drop
@@ -41,8 +46,8 @@ floats-one-more (suc i) bytes =
     let next : 8 * suc i ≡ 8 + 8 * i = omega arith in
     rw (suc-add i 1, floats-one-more i (drop 8 bytes), float-past 8 (8 * i) bytes, next)
 
--- the turn of a loop that stores the floats from byte `from` on
-pub floats-stored : (from i : ℕ) (bytes : List ℕ) (out : List Float) → i < length out → take i out ≡ floats i (drop from bytes)
-    → take (i + 1) (set out i (float (from + 8 * i) bytes)) ≡ floats (i + 1) (drop from bytes)
-floats-stored from i bytes out inside so-far =
-    rw (floats-one-more i (drop from bytes), float-past from (8 * i) bytes, ← so-far, add-one i) (take-suc-set out i (float (from + 8 * i) bytes) inside)
+-- the turn of a loop that stores them
+pub floats-stored : (i : ℕ) (bytes : List ℕ) (out : List Float) → i < length out → take i out ≡ floats i bytes
+    → take (i + 1) (set out i (float (8 * i) bytes)) ≡ floats (i + 1) bytes
+floats-stored i bytes out inside so-far =
+    rw (floats-one-more i bytes, ← so-far, add-one i) (take-suc-set out i (float (8 * i) bytes) inside)

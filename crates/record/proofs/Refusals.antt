@@ -1,12 +1,12 @@
 -- What a refusal by a record's header tells of the body's length, and that no normalise byte makes a refused record one to solve. Assumes nothing.
 use mathlib.Core.Path.{_≡_, refl}
 use mathlib.Core.Bool.{Bool, true, false, not, _||_, true≢false}
-use Prim.Native.Nat.{ℕ, _+_, _-_, _/_, _%_, _≤_}
+use Prim.Native.Nat.{ℕ, _-_, _*_, _/_, _%_, _≤_}
 use native.Mathlib.Omega.{arith}
 use lib.Dec.{eqb, ltb}
 use borrow.Author.Tests.{ltb-false, eqb-true, not-false}
 use Rattle.float.specs.Operators.{if_then_else_}
-use Rattle.record.specs.Sizes.{headerBytes, fieldBytes, rowBytes, recordRows, longestRecord}
+use Rattle.record.specs.Sizes.{fieldBytes, rowBytes, recordRows, mostFloats}
 use Rattle.record.specs.Record.{refusal}
 
 -- ---- a refusal by its three tests
@@ -59,8 +59,8 @@ module _ (kind length : ℕ) where
   many = ltb recordRows ((length - fieldBytes) / rowBytes)
 
   module _ (byte : ℕ) where
-    pub solved-length : refusal kind length byte ≡ 0 → (fieldBytes ≤ length) × ((length - fieldBytes) % rowBytes ≡ 0) × (headerBytes + length ≤ longestRecord)
-    unfolding refusal longestRecord
+    pub solved-length : refusal kind length byte ≡ 0 → (fieldBytes ≤ length) × ((length - fieldBytes) % rowBytes ≡ 0) × (length - fieldBytes ≤ 8 * mostFloats)
+    unfolding refusal mostFloats rowBytes
     solved-length e =
         let passed = was-0 other-kind (other-length || ltb 1 byte) many e in
         let rows = neither _ _ (neither other-length _ (passed .0) .0) in

@@ -1,9 +1,9 @@
 -- A record of RULES 12: a header, the body's length and the kind, and a body; and what comes of it. Assumes nothing.
 use Prim.Native.Nat.{ℕ, _+_, _-_, _/_, _%_}
 use mathlib.Core.Bool.{not, _||_}
-use mathlib.Core.List.{List}
+use mathlib.Core.List.{List, _++_}
 use lib.Dec.{eqb, ltb}
-use lib.ListN.{drop}
+use lib.ListN.{take, drop}
 use lib.Ieee.{Float}
 use Rattle.float.specs.Operators.{if_then_else_}
 use Rattle.solve.specs.declared.Normalize.{Normalize}
@@ -11,7 +11,7 @@ use Rattle.solve.specs.declared.Normalize.the-variants.{Off, Source}
 use Rattle.solve.specs.declared.Task.{Task}
 use Rattle.solve.specs.declared.Outcome.{Outcome}
 use Rattle.solve.specs.declared.Outcome.the-variants.{Refused}
-use Rattle.solve.specs.Solve.{solve}
+use Rattle.solve.specs.Solve.{Ended, solve}
 use Rattle.record.specs.Sizes.{headerBytes, fieldBytes, rowBytes, recordRows, rowsAt}
 use Rattle.record.specs.Bytes.{field, float, floats}
 
@@ -46,8 +46,12 @@ task bytes =
 unfoldable pub allowance : List ℕ → ℕ
 allowance bytes = field 8 46 bytes
 
+-- how many floats its rows have
+unfoldable pub floatCount : List ℕ → ℕ
+floatCount bytes = (bodyLength bytes - fieldBytes) / 8
+
 unfoldable pub rowFloats : List ℕ → List Float
-rowFloats bytes = floats ((bodyLength bytes - fieldBytes) / 8) (drop rowsAt bytes)
+rowFloats bytes = floats (floatCount bytes) (drop rowsAt bytes)
 
 -- ---- what comes of a record that is all there
 
@@ -59,8 +63,14 @@ refusal kind length byte =
     else if ltb recordRows ((length - fieldBytes) / rowBytes) then 2
     else 0
 
+-- what comes of a record by the bytes before its rows and by the floats of its rows, behind which others may stand: a refusal, which leaves all floats
+-- as they were, or what the solve comes to, which leaves its rows
+unfoldable pub answered : List ℕ → List Float → Ended (List Float)
+answered head floats =
+    let number = refusal (kind head) (bodyLength head) (normalizeByte head) in
+    let n = floatCount head in
+    let solved = solve (task head) (allowance head) (take n floats) in
+    if eqb number 0 then record { outcome = solved .outcome; rows = solved .rows ++ drop n floats } else record { outcome = Refused number; rows = floats }
+
 unfoldable pub outcome : List ℕ → Outcome
-outcome bytes =
-    let number = refusal (kind bytes) (bodyLength bytes) (normalizeByte bytes) in
-    let solved = solve (task bytes) (allowance bytes) (rowFloats bytes) .outcome in
-    if eqb number 0 then solved else Refused number
+outcome bytes = answered bytes (rowFloats bytes) .outcome

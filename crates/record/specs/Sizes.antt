@@ -21,12 +21,7 @@ unfoldable pub rowsAt : ℕ
 unfolding headerBytes fieldBytes
 rowsAt = headerBytes + fieldBytes
 
--- the longest record that is solved: 6 + 49 + 24 * 2048 = 49,207
-unfoldable pub longestRecord : ℕ
-unfolding rowsAt rowBytes recordRows
-longestRecord = rowsAt + rowBytes * recordRows
-
--- the floats of its rows: 3 * 2048 = 6,144
+-- the floats of the most rows: 3 * 2048 = 6,144
 unfoldable pub mostFloats : ℕ
 unfolding recordRows
 mostFloats = 3 * recordRows

@@ -6,10 +6,10 @@ use solve::Task;
 use solve::WarmStart;
 ghost use mathlib.Core.Path.{_≡_};
 ghost use Prim.Native.Nat.{_+_, _≤_, _<_, _^_};
-ghost use lib.ListN.{length, take, drop};
-ghost use Rattle.record.specs.Sizes.{rowsAt, longestRecord, mostFloats};
-ghost use Rattle.record.specs.Bytes.{field, float, floats};
-ghost use Rattle.record.specs.Record.{bodyLength, kind, normalizeByte, mode, task, refusal, outcome};
+ghost use lib.ListN.{length};
+ghost use Rattle.record.specs.Sizes.{rowsAt, mostFloats};
+ghost use Rattle.record.specs.Bytes.{field, float};
+ghost use Rattle.record.specs.Record.{bodyLength, kind, normalizeByte, mode, task, refusal, answered};
 
 // ---- sizes, in bytes but for ROWS and FLOATS
 
@@ -25,13 +25,10 @@ const ROW: u64 = 24;
 // The most rows of a record that is solved.
 const ROWS: u64 = 2048;
 
-// Where the rows begin: 6 + 49.
+// Where the rows begin: 6 + 49. A record that is held has so many bytes, and the floats of its rows.
 pub const ROWS_AT: usize = HEADER + FIELDS as usize;
 
-// The longest record that is solved: 6 + 49 + 24 * 2048 = 49,207.
-pub const LONGEST: usize = ROWS_AT + (ROW * ROWS) as usize;
-
-// The floats of its rows: 3 * 2048 = 6,144.
+// The floats of the most rows: 3 * 2048 = 6,144.
 pub const FLOATS: usize = 3 * ROWS as usize;
 
 // ---- numbers, the lowest byte first
@@ -43,8 +40,8 @@ fn wide(byte: u8) -> u64
     byte as u64
 }
 
-fn le16(bytes: &[u8; LONGEST], at: usize) -> u64
-    requires { ⌜ at + 2 ≤ longestRecord ⌝ }
+fn le16(bytes: &[u8], at: usize) -> u64
+    requires { ⌜ at + 2 ≤ length (now bytes) ⌝ }
     ensures value { λ r. ⌜ r ≡ field 2 at (now (bytes .entry)) ⌝ }
     ensures small { λ r. ⌜ r < 2 ^ 16 ⌝ }
 {
@@ -53,60 +50,47 @@ fn le16(bytes: &[u8; LONGEST], at: usize) -> u64
     low + high * 0x100
 }
 
-fn le32(bytes: &[u8; LONGEST], at: usize) -> u64
-    requires { ⌜ at + 4 ≤ longestRecord ⌝ }
+pub fn le32(bytes: &[u8], at: usize) -> u64
+    requires { ⌜ at + 4 ≤ length (now bytes) ⌝ }
     ensures value { λ r. ⌜ r ≡ field 4 at (now (bytes .entry)) ⌝ }
     ensures small { λ r. ⌜ r < 2 ^ 32 ⌝ }
 {
     le16(bytes, at) + le16(bytes, at + 2) * 0x1_0000
 }
 
-fn le64(bytes: &[u8; LONGEST], at: usize) -> u64
-    requires { ⌜ at + 8 ≤ longestRecord ⌝ }
+pub fn le64(bytes: &[u8], at: usize) -> u64
+    requires { ⌜ at + 8 ≤ length (now bytes) ⌝ }
     ensures { λ r. ⌜ r ≡ field 8 at (now (bytes .entry)) ⌝ }
 {
     le32(bytes, at) + le32(bytes, at + 4) * 0x1_0000_0000
 }
 
-fn float_at(bytes: &[u8; LONGEST], at: usize) -> f64
-    requires { ⌜ at + 8 ≤ longestRecord ⌝ }
-    ensures { λ r. ⌜ r ≡ float at (now (bytes .entry)) ⌝ }
+fn float_at(head: &[u8; ROWS_AT], at: usize) -> f64
+    requires { ⌜ at + 8 ≤ rowsAt ⌝ }
+    ensures { λ r. ⌜ r ≡ float at (now (head .entry)) ⌝ }
 {
-    float::float_of(le64(bytes, at))
-}
-
-// The first n floats of a record's rows.
-fn read_floats(bytes: &[u8; LONGEST], out: &mut [f64], n: usize)
-    requires { ⌜ n ≤ mostFloats ⌝ }
-    requires { ⌜ n ≤ length (now out) ⌝ }
-    ensures { λ _. ⌜ take n (now (out .exit)) ≡ floats n (drop rowsAt (now (bytes .entry))) ⌝ }
-{
-    let mut i = 0;
-    while i < n {
-        out[i] = float_at(bytes, ROWS_AT + 8 * i);
-        i += 1;
-    }
+    float::float_of(le64(head, at))
 }
 
 // ---- the header
 
-pub fn body_length(bytes: &[u8; LONGEST]) -> u64
-    ensures value { λ r. ⌜ r ≡ bodyLength (now (bytes .entry)) ⌝ }
+pub fn body_length(head: &[u8; ROWS_AT]) -> u64
+    ensures value { λ r. ⌜ r ≡ bodyLength (now (head .entry)) ⌝ }
     ensures small { λ r. ⌜ r < 2 ^ 32 ⌝ }
 {
-    le32(bytes, 0)
+    le32(head, 0)
 }
 
-pub fn kind_of(bytes: &[u8; LONGEST]) -> u64
-    ensures { λ r. ⌜ r ≡ kind (now (bytes .entry)) ⌝ }
+pub fn kind_of(head: &[u8; ROWS_AT]) -> u64
+    ensures { λ r. ⌜ r ≡ kind (now (head .entry)) ⌝ }
 {
-    le16(bytes, 4)
+    le16(head, 4)
 }
 
-fn normalize_byte(bytes: &[u8; LONGEST]) -> u64
-    ensures { λ r. ⌜ r ≡ normalizeByte (now (bytes .entry)) ⌝ }
+fn normalize_byte(head: &[u8; ROWS_AT]) -> u64
+    ensures { λ r. ⌜ r ≡ normalizeByte (now (head .entry)) ⌝ }
 {
-    wide(bytes[54])
+    wide(head[54])
 }
 
 // ---- what comes of a record
@@ -135,10 +119,10 @@ pub fn refusal(kind: u64, length: u64, byte: u64) -> u64
 }
 
 // The same, of the record that is held.
-fn refusal_of(bytes: &[u8; LONGEST]) -> u64
-    ensures { λ r. ⌜ r ≡ refusal (kind (now (bytes .entry))) (bodyLength (now (bytes .entry))) (normalizeByte (now (bytes .entry))) ⌝ }
+fn refusal_of(head: &[u8; ROWS_AT]) -> u64
+    ensures { λ r. ⌜ r ≡ refusal (kind (now (head .entry))) (bodyLength (now (head .entry))) (normalizeByte (now (head .entry))) ⌝ }
 {
-    refusal(kind_of(bytes), body_length(bytes), normalize_byte(bytes))
+    refusal(kind_of(head), body_length(head), normalize_byte(head))
 }
 
 fn mode_of(byte: u64) -> Normalize
@@ -150,34 +134,34 @@ fn mode_of(byte: u64) -> Normalize
     Normalize::Source
 }
 
-fn task_of(bytes: &[u8; LONGEST]) -> Task
-    ensures { λ t. ⌜ t ≡ task (now (bytes .entry)) ⌝ }
+fn task_of(head: &[u8; ROWS_AT]) -> Task
+    ensures { λ t. ⌜ t ≡ task (now (head .entry)) ⌝ }
 {
-    let mode = mode_of(normalize_byte(bytes));
+    let mode = mode_of(normalize_byte(head));
     Task {
         tol: Tolerances {
-            feasibility: float_at(bytes, 6),
-            scale: float_at(bytes, 14),
+            feasibility: float_at(head, 6),
+            scale: float_at(head, 14),
         },
         start: WarmStart {
-            x: float_at(bytes, 22),
-            y: float_at(bytes, 30),
-            skip: le64(bytes, 38) as usize,
+            x: float_at(head, 22),
+            y: float_at(head, 30),
+            skip: le64(head, 38) as usize,
         },
         normalize: mode,
     }
 }
 
-// What comes of the record that is held; `floats` is room for its rows.
-pub fn outcome_of(bytes: &[u8; LONGEST], floats: &mut [f64]) -> Outcome
+// What comes of the record that is held. A solve leaves its rows in the floats.
+pub fn outcome_of(head: &[u8; ROWS_AT], floats: &mut [f64]) -> Outcome
     requires { ⌜ mostFloats ≤ length (now floats) ⌝ }
-    ensures { λ r. ⌜ r ≡ outcome (now (bytes .entry)) ⌝ }
+    ensures answer { λ r. ⌜ r ≡ answered (now (head .entry)) (now (floats .entry)) .outcome ⌝ }
+    ensures floats { λ _. ⌜ now (floats .exit) ≡ answered (now (head .entry)) (now (floats .entry)) .rows ⌝ }
 {
-    let number = refusal_of(bytes);
+    let number = refusal_of(head);
     if number != 0 {
         return Outcome::Refused(number);
     }
-    let n = ((body_length(bytes) - FIELDS) / 8) as usize;
-    read_floats(bytes, floats, n);
-    solve::solve(&mut floats[..n], task_of(bytes), le64(bytes, 46))
+    let n = ((body_length(head) - FIELDS) / 8) as usize;
+    solve::solve(&mut floats[..n], task_of(head), le64(head, 46))
 }

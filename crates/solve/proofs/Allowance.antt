@@ -4,6 +4,7 @@ use mathlib.Core.Path.{_≡_, refl, sym, ap, _∙_}
 use mathlib.Core.Logic.{_↔_, _≢_}
 use mathlib.Core.List.{List, [], _∷_}
 use Prim.Native.Nat.{ℕ, _≤_, _<_}
+use native.Mathlib.Decide.{ℕ-discrete}
 use native.Mathlib.Nat.{lt-of-not-le}
 use native.Mathlib.Omega.{arith}
 use borrow.Author.Tests.{lt-ltb, le-ltb, eq-eqb, ne-eqb}
@@ -133,6 +134,19 @@ module _ (T : Task) (flat : List Float) where
   solve-never-four A four =
       let fits = taken-where A (omega arith) (omega arith) in
       never-four T (rowsOf flat) A (sym (ap number (outcome-where-taken A fits)) ∙ four)
+
+  -- a solve answers, or gives refusal 1, 2 or 3
+  pub solve-no-other : (A : ℕ) → number (solve T A flat .outcome) < 4
+  solve-no-other A =
+      elim (ℕ-discrete (refusalOf T flat) 0) [
+        | yes fits ↦
+            let same = ap number (outcome-where-taken A fits) in
+            elim (ℕ-discrete (number (allowed T A (rowsOf flat) .outcome)) 0) [
+              | yes answers ↦ omega arith
+              | no stopped ↦ omega (arith, number-above T (rowsOf flat) A (above-where-refused T (rowsOf flat) A stopped))
+            ]
+        | no refused ↦ omega (arith, number-where-refused A refused, no-other T flat)
+      ]
 
   -- an answer keeps within the allowance
   pub keeps-within : (A : ℕ) {a : Answer} {act : Active} {n : ℕ} → solve T A flat .outcome ≡ Answered a act n

@@ -40,3 +40,8 @@ pub then-two-put : (out : List ℕ) (at : ℕ) (s t u : List ℕ) {mid more left
     → Put out at s mid m → Put mid m t more k → Put more k u left end → Put out at (s ++ t ++ u) left end
 then-two-put out at s t u fits first second third =
     then-put out at (s ++ t) u (simp length-append (omega arith)) (then-put out at s t (omega arith) first second) third
+
+-- a text at the start of lent bytes is no longer than they are
+pub put-fits : (out text : List ℕ) → length text ≤ length (written out 0 text)
+unfolding written
+put-fits out text = simp length-append (omega arith)

@@ -16,6 +16,9 @@ const DIGITS: usize = 20;
 // The longest line, 124 bytes: a number; ` point` with two floats of 17 bytes; two rows and a count, each behind a blank; and the newline.
 pub const LONGEST_LINE: usize = DIGITS + 6 + 2 * 17 + 3 * (1 + DIGITS) + 1;
 
+// The closing line, 25 bytes: `end`, a count behind a blank, and the newline.
+pub const LONGEST_END: usize = 3 + (1 + DIGITS) + 1;
+
 // ---- text
 
 pub fn put(out: &mut [u8], at: usize, text: &[u8]) -> usize

@@ -1,4 +1,4 @@
--- `reader::finish` meets its contract.
+-- `reader::finish` meets its contract. Assumes nothing.
 use Prim.Native.Nat.{_+_, _≤_}
 use native.Mathlib.Omega.{arith}
 use borrow.Author.Needs.{needs}
@@ -33,7 +33,7 @@ put-line-requires c κs = search needs
 put-end-requires-2 : tie.Need-put-end-requires-2
 put-end-requires-2 c κs =
     let cut = c .before .before .before .before .before .before in
-    omega (arith, line-length (cut .before .before .before .args .reader .lines + 1) (Refused 8))
+    omega (arith, line-length (cut .before .before .before .args .link .lines + 1) (Refused 8))
 
 same-length-2 : tie.Need-same-length-2
 same-length-2 c = search needs
@@ -45,7 +45,7 @@ returns-2 c =
     let line = end .before .before .before .before in
     let cut = line .before .before .before in
     let a = cut .before .before .before .args in
-    let number = a .reader .lines + 1 in
+    let number = a .link .lines + 1 in
     let refused = outcomeLine number (Refused 8) in
     let fits : a .at + length refused + length (endLine number) ≤ length (now (a .out)) =
     omega (arith, line-length number (Refused 8), end-length number) in

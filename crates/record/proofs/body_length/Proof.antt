@@ -1,12 +1,10 @@
 -- `record::body_length` meets its contract. Assumes nothing.
 use borrow.Author.Needs.{needs}
-use Rattle.record.specs.Sizes.{longestRecord}
 use Rattle.record.specs.Record.{bodyLength}
 use Rattle.record.proofs.body_length.Statement.{statement}
 use Rattle.record.proofs.body_length.Tie as tie
 
 le32-requires : tie.Need-le32-requires
-unfolding longestRecord
 le32-requires c κs = search needs
 
 returns : tie.Need-returns

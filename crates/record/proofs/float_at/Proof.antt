@@ -1,10 +1,12 @@
 -- `record::float_at` meets its contract. Assumes nothing.
 use borrow.Author.Needs.{needs}
+use Rattle.record.specs.Sizes.{rowsAt}
 use Rattle.record.specs.Bytes.{float}
 use Rattle.record.proofs.float_at.Statement.{statement}
 use Rattle.record.proofs.float_at.Tie as tie
 
 le64-requires : tie.Need-le64-requires
+unfolding rowsAt
 le64-requires c κs = search needs
 
 float-of-requires : tie.Need-float-of-requires

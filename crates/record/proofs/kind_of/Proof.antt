@@ -1,12 +1,10 @@
 -- `record::kind_of` meets its contract. Assumes nothing.
 use borrow.Author.Needs.{needs}
-use Rattle.record.specs.Sizes.{longestRecord}
 use Rattle.record.specs.Record.{kind}
 use Rattle.record.proofs.kind_of.Statement.{statement}
 use Rattle.record.proofs.kind_of.Tie as tie
 
 le16-requires : tie.Need-le16-requires
-unfolding longestRecord
 le16-requires c κs = search needs
 
 returns : tie.Need-returns

@@ -3,25 +3,21 @@ use Prim.Native.Nat.{_+_}
 use native.Mathlib.Omega.{arith}
 use borrow.Author.Needs.{needs}
 use denote.Ref.{now}
-use Rattle.record.specs.Sizes.{longestRecord}
 use Rattle.record.proofs.Bytes.{field-split, field-one}
 use Rattle.record.proofs.le16.Statement.{statement}
 use Rattle.record.proofs.le16.Tie as tie
 
-element-copy-out-wide : tie.Need-element-copy-out-wide
-unfolding longestRecord
-element-copy-out-wide c = search needs
+shared-slice-read-wide : tie.Need-shared-slice-read-wide
+shared-slice-read-wide c = search needs
 
 wide-requires : tie.Need-wide-requires
 wide-requires c κs = search needs
 
 add-wide : tie.Need-add-wide
-unfolding longestRecord
 add-wide c = search needs
 
-element-copy-out-wide-2 : tie.Need-element-copy-out-wide-2
-unfolding longestRecord
-element-copy-out-wide-2 c = search needs
+shared-slice-read-wide-2 : tie.Need-shared-slice-read-wide-2
+shared-slice-read-wide-2 c = search needs
 
 wide-requires-2 : tie.Need-wide-requires-2
 wide-requires-2 c κs = search needs
@@ -34,7 +30,7 @@ add-result c = search needs
 
 returns : tie.Need-returns
 returns c =
-    let a = c .before .before .before .before .args in
+    let a = c .before .before .before .before .before .args in
     let bytes = now (a .bytes) in
     (omega (arith, field-split 1 1 (a .at) bytes, field-one (a .at) bytes, field-one (a .at + 1) bytes), omega arith)
 
@@ -42,10 +38,10 @@ pub le16-spec : {M : Type 1} → statement M
 le16-spec =
     tie.close
     (tie.spec
-    element-copy-out-wide
+    shared-slice-read-wide
     wide-requires
     add-wide
-    element-copy-out-wide-2
+    shared-slice-read-wide-2
     wide-requires-2
     mul-result
     add-result

@@ -2,7 +2,6 @@
 use native.Mathlib.Omega.{arith}
 use borrow.Author.Needs.{needs}
 use denote.Ref.{now}
-use Rattle.record.specs.Sizes.{longestRecord}
 use Rattle.record.proofs.Bytes.{field-split}
 use Rattle.record.proofs.le32.Statement.{statement}
 use Rattle.record.proofs.le32.Tie as tie
@@ -11,7 +10,6 @@ le16-requires : tie.Need-le16-requires
 le16-requires c κs = search needs
 
 add-le16 : tie.Need-add-le16
-unfolding longestRecord
 add-le16 c = search needs
 
 le16-requires-2 : tie.Need-le16-requires-2
@@ -24,7 +22,7 @@ add-result : tie.Need-add-result
 add-result c = search needs
 
 returns : tie.Need-returns
-returns c = let a = c .before .before .args in (omega (arith, field-split 2 2 (a .at) (now (a .bytes))), omega arith)
+returns c = let a = c .before .before .before .args in (omega (arith, field-split 2 2 (a .at) (now (a .bytes))), omega arith)
 
 pub le32-spec : {M : Type 1} → statement M
 le32-spec =

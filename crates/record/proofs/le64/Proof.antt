@@ -2,7 +2,6 @@
 use native.Mathlib.Omega.{arith}
 use borrow.Author.Needs.{needs}
 use denote.Ref.{now}
-use Rattle.record.specs.Sizes.{longestRecord}
 use Rattle.record.proofs.Bytes.{field-split}
 use Rattle.record.proofs.le64.Statement.{statement}
 use Rattle.record.proofs.le64.Tie as tie
@@ -11,7 +10,6 @@ le32-requires : tie.Need-le32-requires
 le32-requires c κs = search needs
 
 add-le32 : tie.Need-add-le32
-unfolding longestRecord
 add-le32 c = search needs
 
 le32-requires-2 : tie.Need-le32-requires-2
@@ -24,7 +22,7 @@ add-result : tie.Need-add-result
 add-result c = search needs
 
 returns : tie.Need-returns
-returns c = let a = c .before .before .args in omega (arith, field-split 4 4 (a .at) (now (a .bytes)))
+returns c = let a = c .before .before .before .args in omega (arith, field-split 4 4 (a .at) (now (a .bytes)))
 
 pub le64-spec : {M : Type 1} → statement M
 le64-spec =

@@ -14,7 +14,7 @@ wide-requires c κs = search needs
 
 returns : tie.Need-returns
 unfolding normalizeByte
-returns c = rw (field-one _ (now (c .before .before .args .bytes))) (c .wide .ensures .0)
+returns c = rw (field-one _ (now (c .before .before .args .head))) (c .wide .ensures .0)
 
 pub normalize-byte-spec : {M : Type 1} → statement M
 normalize-byte-spec = tie.close (tie.spec element-copy-out-wide wide-requires returns)

@@ -1,6 +1,6 @@
 -- `record::task_of` meets its contract. Assumes nothing.
 use borrow.Author.Needs.{needs}
-use Rattle.record.specs.Sizes.{longestRecord}
+use Rattle.record.specs.Sizes.{rowsAt}
 use Rattle.record.specs.Record.{task}
 use Rattle.record.proofs.task_of.Statement.{statement}
 use Rattle.record.proofs.task_of.Tie as tie
@@ -12,29 +12,29 @@ mode-of-requires : tie.Need-mode-of-requires
 mode-of-requires c κs = search needs
 
 float-at-requires : tie.Need-float-at-requires
-unfolding longestRecord
+unfolding rowsAt
 float-at-requires c κs = search needs
 
 float-at-requires-2 : tie.Need-float-at-requires-2
-unfolding longestRecord
+unfolding rowsAt
 float-at-requires-2 c κs = search needs
 
 float-at-requires-3 : tie.Need-float-at-requires-3
-unfolding longestRecord
+unfolding rowsAt
 float-at-requires-3 c κs = search needs
 
 float-at-requires-4 : tie.Need-float-at-requires-4
-unfolding longestRecord
+unfolding rowsAt
 float-at-requires-4 c κs = search needs
 
 le64-requires : tie.Need-le64-requires
-unfolding longestRecord
+unfolding rowsAt
 le64-requires c κs = search needs
 
 returns : tie.Need-returns
 unfolding task
 returns c =
-    let x = c .before .before in
+    let x = c .before .before .before in
     let scale = x .before in
     let mode = scale .before .before in
     rw (
@@ -43,7 +43,7 @@ returns c =
       ← scale .before .float-at .ensures,
       ← scale .float-at2 .ensures,
       ← x .float-at3 .ensures,
-      ← c .before .float-at4 .ensures,
+      ← c .before .before .float-at4 .ensures,
       ← c .le64 .ensures,
     )
 
