@@ -1,5 +1,5 @@
 -- The contracts of the entries leave no choice: whatever two results and exit states they allow of one call, the results are equal, and so are the rows that
--- are lent by `&mut`.
+-- are lent by `&mut`, and what else is.
 use mathlib.Core.Path.{_≡_, sym, _∙_}
 use mathlib.Core.List.{List}
 use Prim.Native.Nat.{ℕ}
@@ -15,6 +15,8 @@ use denote.Ref.{now}
 use Rattle.rows.specs.declared.Row.{Row}
 use Rattle.float.proofs.One.{One}
 use Rattle.lent.proofs.Unique.{One as OneOf}
+use Rattle.link.specs.declared.Fed.{Fed}
+use Rattle.link.proofs.Unique.{Left, fed-alike, ends-alike}
 use Rattle.kernel.specs.declared.Solved.{Solved}
 use Rattle.kernel.specs.declared.SourceSolved.{SourceSolved}
 use Rattle.kernel.proofs.ravelsickle_root.Kinds as root
@@ -34,6 +36,12 @@ use Rattle.kernel.proofs.ravelsickle_solve.Reads as solve-contract
 use Rattle.kernel.proofs.ravelsickle_solve_rows as solve-rows
 use Rattle.kernel.proofs.ravelsickle_lp_2d_incre_max_y.Kinds as lp-2d-incre-max-y
 use Rattle.kernel.proofs.ravelsickle_lp_2d_incre_max_y.Reads as lp-2d-incre-max-y-contract
+use Rattle.kernel.proofs.ravelsickle_reader_start.Kinds as reader-start
+use Rattle.kernel.proofs.ravelsickle_reader_start.Reads as reader-start-contract
+use Rattle.kernel.proofs.ravelsickle_reader_feed.Kinds as reader-feed
+use Rattle.kernel.proofs.ravelsickle_reader_feed.Reads as reader-feed-contract
+use Rattle.kernel.proofs.ravelsickle_reader_end.Kinds as reader-end
+use Rattle.kernel.proofs.ravelsickle_reader_end.Reads as reader-end-contract
 
 pub root-one : One 0 root.ps root.r root-contract.Post (λ κs z e. z)
 root-one κs args z z′ e e′ h k = h ∙ sym k
@@ -59,6 +67,16 @@ solve-one κs args z z′ e e′ h k = cc
 pub lp-2d-incre-max-y-one : One 1 lp-2d-incre-max-y.ps lp-2d-incre-max-y.r lp-2d-incre-max-y-contract.Post {A = SourceSolved × List Float}
     (λ κs z e. (z, now (e .0)))
 lp-2d-incre-max-y-one κs args z z′ e e′ h k = cc
+
+pub reader-start-one : One 0 reader-start.ps reader-start.r reader-start-contract.Post (λ κs z e. z)
+reader-start-one κs args z z′ e e′ h k = h ∙ sym k
+
+pub reader-feed-one : One 4 reader-feed.ps reader-feed.r reader-feed-contract.Post {A = Left}
+    (λ κs z e. (z, now (e .1 .0), now (e .1 .1 .0), now (e .1 .1 .1 .1 .0)))
+reader-feed-one κs args z z′ e e′ h k = fed-alike _ _ _ _ _ _ _ _ _ h k
+
+pub reader-end-one : One 2 reader-end.ps reader-end.r reader-end-contract.Post {A = Fed × List ℕ} (λ κs z e. (z, now (e .1 .1 .0)))
+reader-end-one κs args z z′ e e′ h k = ends-alike _ _ _ _ _ _ h k
 
 -- the contract of a walked function is read as the logic has it: what its two clauses say of the one result beside what they say of the other
 abbrev together : {X Y : Type 0} → X → Y → X × Y

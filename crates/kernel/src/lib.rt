@@ -4,6 +4,8 @@ use line::Active;
 use line::Bounds;
 use line::Slot;
 use line::Tolerances;
+use link::Fed;
+use reader::Link;
 use recover::Recovered;
 use rows::Crossing;
 use rows::Normalized;
@@ -19,10 +21,14 @@ use step::Collector;
 use step::Frame;
 ghost use mathlib.Core.Path.{_≡_};
 ghost use Prim.Native.Nat.{_*_};
+ghost use lib.ListN.{length};
 ghost use Rattle.rounding.specs.Root.{root};
 ghost use Rattle.rounding.specs.Fused.{fused};
 ghost use Rattle.rows.specs.Rows.{refusal, normalizing, normalizedFlat, crossing};
 ghost use Rattle.solve.specs.Solve.{silent};
+ghost use Rattle.text.specs.Text.{written};
+ghost use Rattle.reader.specs.Reader.{started, taken, fed, said, endText, ended};
+ghost use Rattle.reader.specs.Reader.{refusalOf as Reader·refusalOf};
 ghost use Rattle.kernel.specs.Records.{slot, hasRow, rowNumber, answered, refused, withRows, unsolved, solved, source};
 ghost use Rattle.kernel.specs.Records.{ofNormalized, crossed, recoveredAt};
 ghost use Rattle.kernel.specs.Kernel.{task, noMode, orTen, refusalOf, solving, solvingRows, solvingSource, lineBounds, collector, recovery};
@@ -460,4 +466,47 @@ pub extern "C" fn ravelsickle_lp_2d_incre_max_y(rows: &mut [f64], task: SolveTas
     }
     let got = solve::lp_2d_incre_max_y(rows, task_of(task));
     source_of(got)
+}
+
+// ---- records off a link: the state by value, the memory of the record in hand and of a line lent
+
+#[no_mangle]
+pub extern "C" fn ravelsickle_reader_start(limit: u64) -> Link
+    ensures { λ r. ⌜ r ≡ started limit ⌝ }
+{
+    link::start(limit)
+}
+
+#[no_mangle]
+pub extern "C" fn ravelsickle_reader_feed(
+    link: Link,
+    head: &mut [u8; record::ROWS_AT],
+    rows: &mut [f64; record::FLOATS],
+    bytes: &[u8],
+    out: &mut [u8; link::LINE],
+) -> Fed
+    ensures refusal { λ f. ⌜ f .refusal ≡ Reader·refusalOf link (now (head .entry)) ⌝ }
+    ensures taken { λ f. ⌜ f .taken ≡ taken link (now (head .entry)) (now (rows .entry)) (now (bytes .entry)) ⌝ }
+    ensures link { λ f. ⌜ f .link ≡ fed link (now (head .entry)) (now (rows .entry)) (f .taken) (now (bytes .entry)) .link ⌝ }
+    ensures printed { λ f. ⌜ f .printed ≡ length (said link (now (head .entry)) (now (rows .entry)) (f .taken) (now (bytes .entry))) ⌝ }
+    ensures head { λ f. ⌜ now (head .exit) ≡ fed link (now (head .entry)) (now (rows .entry)) (f .taken) (now (bytes .entry)) .head ⌝ }
+    ensures rows { λ f. ⌜ now (rows .exit) ≡ fed link (now (head .entry)) (now (rows .entry)) (f .taken) (now (bytes .entry)) .rows ⌝ }
+    ensures out { λ f. ⌜ now (out .exit) ≡ written (now (out .entry)) 0 (said link (now (head .entry)) (now (rows .entry)) (f .taken) (now (bytes .entry))) ⌝ }
+{
+    link::feed(link, head, rows, bytes, out)
+}
+
+#[no_mangle]
+pub extern "C" fn ravelsickle_reader_end(
+    link: Link,
+    head: &[u8; record::ROWS_AT],
+    out: &mut [u8; link::LINE],
+) -> Fed
+    ensures refusal { λ f. ⌜ f .refusal ≡ Reader·refusalOf link (now (head .entry)) ⌝ }
+    ensures taken { λ f. ⌜ f .taken ≡ 0 ⌝ }
+    ensures link { λ f. ⌜ f .link ≡ ended link (now (head .entry)) ⌝ }
+    ensures printed { λ f. ⌜ f .printed ≡ length (endText link (now (head .entry))) ⌝ }
+    ensures out { λ _. ⌜ now (out .exit) ≡ written (now (out .entry)) 0 (endText link (now (head .entry))) ⌝ }
+{
+    link::end(link, head, out)
 }
