@@ -1466,6 +1466,7 @@ class Gate(unittest.TestCase):
         self.script("tools/house", "echo house >>ran")
         self.script("bindings/run", 'echo "bindings $*" >>ran; echo 5 parts passed, 0 failed')
         self.write_test("pass")
+        self.write_runs("pass")
         (self.root / ".ci").mkdir()
         shutil.copy(ROOT / ".ci" / "run", self.root / ".ci" / "run")
 
@@ -1483,6 +1484,9 @@ class Gate(unittest.TestCase):
         text = f"import unittest\n\nclass One(unittest.TestCase):\n    def test_one(self):\n        open('ran', 'a').write('tests\\n'); {words}\n"
         (self.root / "tools" / "test_one.py").write_text(text)
 
+    def write_runs(self, words):
+        (self.root / "tools" / "rowrun_runs.py").write_text(f"open('ran', 'a').write('runs\\n'); {words}\n")
+
     def gate(self, cwd="/", **more):
         """The gate's exit status, what it printed, on both streams, and which parts it ran."""
         path = os.pathsep.join([str(self.root / "bin"), "/usr/bin", "/bin"])
@@ -1492,7 +1496,7 @@ class Gate(unittest.TestCase):
         ran = (self.root / "ran").read_text().splitlines() if (self.root / "ran").exists() else []
         return done.returncode, done.stdout.decode(), ran
 
-    ALL = ["rt fmt --check", "house", "tests", "rt ci", "bindings "]
+    ALL = ["rt fmt --check", "house", "tests", "rt ci", "runs", "bindings "]
 
     def assert_fails(self, status, last, parts):
         found, said, ran = self.gate()
@@ -1547,6 +1551,10 @@ class Gate(unittest.TestCase):
             self.rt(ci=ci)
             self.assert_fails(status, f"FAILED: {part} (status {status})", 4)
             (self.root / "ran").unlink()
+
+    def test_the_runs_fail(self):
+        self.write_runs("raise SystemExit(1)")
+        self.assert_fails(1, "FAILED: rowrun where reading or writing does not go well (status 1)", 5)
 
     def test_the_bindings_fail(self):
         self.script("bindings/run", "echo bindings >>ran; echo 4 parts passed, 1 failed; exit 1")
