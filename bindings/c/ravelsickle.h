@@ -3,8 +3,8 @@
  * known beforehand.
  *
  * Link the static library that `rt staticlib kernel` writes (target/staticlib/libkernel.a, for x86-64). It calls C's
- * memset and nothing else, allocates nothing and keeps nothing between calls, so that threads may call it at once on
- * rows of their own.
+ * memset and memcpy and nothing else, allocates nothing and keeps nothing between calls, so that threads may call it at
+ * once on rows, and links, of their own.
  *
  * One convention for every entry: rows are lent, and may be changed in place; everything else goes in by value, in one
  * record where it is more than a number or two; and what comes back is a record by value, whose first number is the
@@ -54,7 +54,9 @@ enum ravelsickle_refusal {
     /* The prefix to recover is longer than the rows. */
     RAVELSICKLE_PREFIX_TOO_LONG = 7,
     /* The task's number for normalising names no mode. Rows are unchanged. */
-    RAVELSICKLE_NO_SUCH_MODE = 10
+    RAVELSICKLE_NO_SUCH_MODE = 10,
+    /* A link was fed, or told the end, after its end, or before it was started. Nothing is changed or printed. */
+    RAVELSICKLE_ENDED = 12
 };
 
 /* How a solve normalises the lent rows, before each of its up to seven rounds. */
@@ -196,6 +198,125 @@ struct ravelsickle_solution ravelsickle_lp_2d_incre_max_y(double *rows, size_t f
  */
 struct ravelsickle_recovered ravelsickle_recover_2d_prefix(const double *rows, size_t floats,
                                                            struct ravelsickle_recovery_task task);
+
+/*
+ * ---- Records off a link.
+ *
+ * Records (docs/RULES.md, section 12) come a few bytes at a time, cut anywhere. A link is fed what has come, gives a line
+ * for each record at its last byte, and is told the end:
+ *
+ *   static struct ravelsickle_link link;             (about 48 KiB: the rows of one record, and nothing of one skipped)
+ *   ravelsickle_link_start(&link);
+ *   while there are bytes, n of them at `at`:
+ *       while (n > 0) {
+ *           struct ravelsickle_step step = ravelsickle_link_feed(&link, at, n);
+ *           if (step.refusal != 0) break;
+ *           link.line has step.printed bytes of text, none unless a record ended
+ *           at += step.taken;
+ *           n -= step.taken;
+ *       }
+ *   ravelsickle_link_end(&link);                     (link.line has the last lines)
+ *
+ * However the bytes are cut, the lines are the same.
+ */
+
+/* The bytes of a record before its rows, and the floats of the most rows that a record may have. */
+#define RAVELSICKLE_HEAD 55
+#define RAVELSICKLE_FLOATS 6144
+
+/* Room for any text that a call prints: a line of 124 bytes at most, with the closing line of 25 behind it. */
+#define RAVELSICKLE_LINE 149
+
+/* Bytes past this number of them count as not there. */
+#define RAVELSICKLE_MOST_BYTES ((uint64_t)1 << 63)
+
+/* The numbers of a reader between two portions. A link keeps them; nobody else has to look. */
+struct ravelsickle_reader {
+    uint64_t live;  /* 1 from the start until the end is told */
+    uint64_t lines; /* lines printed so far */
+    uint64_t left;  /* bytes that may still come and count */
+    size_t passed;  /* bytes taken of the record in hand */
+    uint64_t word;  /* the bytes of a float of its rows that is not all there, the latest on top */
+};
+
+/* What an entry leaves. */
+struct ravelsickle_fed {
+    uint64_t refusal; /* 0 or 12 */
+    size_t taken;     /* bytes of the portion that were taken */
+    size_t printed;   /* bytes of text at the start of what was lent for it */
+    struct ravelsickle_reader reader;
+};
+
+/*
+ * The entries themselves: the reader by value, and lent to them the memory of the record in hand and room for the text.
+ * ravelsickle_link_start, _feed and _end below keep all of it in one struct.
+ *
+ * Refusal 12 leaves everything as it was and prints nothing. It is given after the end, and for a reader that was not
+ * started: one whose numbers no start and no feeding can leave.
+ */
+struct ravelsickle_reader ravelsickle_reader_start(uint64_t limit);
+struct ravelsickle_fed ravelsickle_reader_feed(struct ravelsickle_reader reader, unsigned char head[RAVELSICKLE_HEAD],
+                                               double rows[RAVELSICKLE_FLOATS], const unsigned char *bytes,
+                                               size_t bytes_count, unsigned char text[RAVELSICKLE_LINE]);
+struct ravelsickle_fed ravelsickle_reader_end(struct ravelsickle_reader reader, const unsigned char head[RAVELSICKLE_HEAD],
+                                              unsigned char text[RAVELSICKLE_LINE]);
+
+/* A link: the reader and its memory, RAVELSICKLE_LINK_BYTES bytes. A link of zeros is one that was not started. */
+struct ravelsickle_link {
+    struct ravelsickle_reader reader;
+    double rows[RAVELSICKLE_FLOATS];
+    unsigned char head[RAVELSICKLE_HEAD];
+    unsigned char line[RAVELSICKLE_LINE]; /* what the last call printed */
+};
+
+#define RAVELSICKLE_LINK_BYTES 49400
+
+/* What a call did. */
+struct ravelsickle_step {
+    uint64_t refusal; /* 0 or 12 */
+    size_t taken;     /* bytes of the portion that were taken: up to the first record's end, or all */
+    size_t printed;   /* bytes of text in the link's `line`: a record's line, or none; at the end the last lines */
+};
+
+/* Starts a link anew: it has seen nothing. */
+static inline void ravelsickle_link_start(struct ravelsickle_link *link) {
+    size_t at;
+    for (at = 0; at < RAVELSICKLE_FLOATS; at++) {
+        link->rows[at] = 0.0;
+    }
+    for (at = 0; at < RAVELSICKLE_HEAD; at++) {
+        link->head[at] = 0;
+    }
+    for (at = 0; at < RAVELSICKLE_LINE; at++) {
+        link->line[at] = 0;
+    }
+    link->reader = ravelsickle_reader_start(RAVELSICKLE_MOST_BYTES);
+}
+
+/* What an entry left, put back into the link. */
+static inline struct ravelsickle_step ravelsickle_link_step(struct ravelsickle_link *link, struct ravelsickle_fed fed) {
+    struct ravelsickle_step step;
+    link->reader = fed.reader;
+    step.refusal = fed.refusal;
+    step.taken = fed.taken;
+    step.printed = fed.printed;
+    return step;
+}
+
+/*
+ * Feeds a portion: takes its bytes up to the first record's end, or all of them, and says how many; what is left is handed in
+ * again. The line of a record that ended is in link->line. No bytes change nothing. Refusal: 12.
+ */
+static inline struct ravelsickle_step ravelsickle_link_feed(struct ravelsickle_link *link, const unsigned char *bytes,
+                                                            size_t bytes_count) {
+    return ravelsickle_link_step(
+        link, ravelsickle_reader_feed(link->reader, link->head, link->rows, bytes, bytes_count, link->line));
+}
+
+/* Tells the end: the line of a record that is cut, refusal 8 in it, and the closing line are in link->line. Refusal: 12. */
+static inline struct ravelsickle_step ravelsickle_link_end(struct ravelsickle_link *link) {
+    return ravelsickle_link_step(link, ravelsickle_reader_end(link->reader, link->head, link->line));
+}
 
 /* The original's usual tolerances, a start beyond the set, no row skipped, no normalising, and no limit on readings. */
 static inline struct ravelsickle_task ravelsickle_usual_task(void) {

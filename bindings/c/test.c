@@ -423,6 +423,167 @@ static void test_recover_refuses(const double *many, size_t too_many) {
                            0, 8));
 }
 
+/* ---- records off a link */
+
+static struct ravelsickle_link the_link;
+
+/* What a link printed so far. */
+static char said[4096];
+static size_t said_count;
+
+static void say(size_t printed) {
+    memcpy(said + said_count, the_link.line, printed);
+    said_count += printed;
+    said[said_count] = 0;
+}
+
+static void start_link(void) {
+    ravelsickle_link_start(&the_link);
+    said_count = 0;
+    said[0] = 0;
+}
+
+/* Offers at most `most` bytes at a time, and what is left again with more. */
+static void feed_link(const unsigned char *bytes, size_t count, size_t most) {
+    while (count > 0) {
+        struct ravelsickle_step step = ravelsickle_link_feed(&the_link, bytes, count < most ? count : most);
+        CHECK(step.refusal == RAVELSICKLE_DONE && step.taken > 0);
+        say(step.printed);
+        bytes += step.taken;
+        count -= step.taken;
+    }
+}
+
+static bool ends_saying(const char *wanted) {
+    say(ravelsickle_link_end(&the_link).printed);
+    return strcmp(said, wanted) == 0;
+}
+
+static void put_number(unsigned char *to, uint64_t number, size_t bytes) {
+    size_t at;
+    for (at = 0; at < bytes; at += 1) {
+        to[at] = (unsigned char)(number >> (8 * at));
+    }
+}
+
+/* A record's header, and the fields of a body with the usual task. */
+static void put_fields(unsigned char *to, uint64_t length, unsigned kind, unsigned char normalize) {
+    put_number(to, length, 4);
+    put_number(to + 4, kind, 2);
+    put_number(to + 6, bits(1e-9), 8);
+    put_number(to + 14, bits(10.0), 8);
+    put_number(to + 22, bits(0.0), 8);
+    put_number(to + 30, bits(1e6), 8);
+    put_number(to + 38, 0, 8);
+    put_number(to + 46, 1000, 8);
+    to[54] = normalize;
+}
+
+/* The sample of RULES 13.12: S3 and S4. */
+static void put_sample(unsigned char sample[206]) {
+    static const double s3[6] = {1.0, 1.0, 2.0, -1.0, 1.0, 0.0};
+    size_t at;
+    put_fields(sample, 97, 1, 0);
+    put_fields(sample + 103, 97, 1, 0);
+    for (at = 0; at < 6; at += 1) {
+        put_number(sample + 55 + 8 * at, bits(s3[at]), 8);
+        put_number(sample + 158 + 8 * at, bits(S4[at]), 8);
+    }
+}
+
+static const char SAMPLE_LINES[] = "1 point 3FF0000000000000 3FF0000000000000 0 1 7\n"
+                                   "2 point 0000000000000000 4000000000000000 1 - 23\n"
+                                   "end 2\n";
+
+/* However the sample is cut, its lines are the same; a line comes with its record's last byte. */
+static void test_link(void) {
+    unsigned char sample[206];
+    size_t at;
+    put_sample(sample);
+    CHECK(sizeof the_link == RAVELSICKLE_LINK_BYTES);
+    for (at = 1; at <= sizeof sample; at += 41) {
+        start_link();
+        feed_link(sample, sizeof sample, at);
+        CHECK(ends_saying(SAMPLE_LINES));
+    }
+    start_link();
+    CHECK(ravelsickle_link_feed(&the_link, sample, 102).printed == 0);
+    CHECK(ravelsickle_link_feed(&the_link, sample + 102, 104).taken == 1);
+    CHECK(ravelsickle_link_feed(&the_link, sample + 103, 0).taken == 0);
+    CHECK(the_link.reader.lines == 1 && the_link.reader.passed == 0);
+}
+
+/* A record that is cut is refusal 8 when the end is told; one of length 0 has its line with the sixth byte. */
+static void test_link_cut(void) {
+    unsigned char short_one[7] = {1, 0, 0, 0, 9, 0, 0};
+    unsigned char empty_one[6] = {0, 0, 0, 0, 1, 0};
+    start_link();
+    CHECK(ends_saying("end 0\n"));
+    start_link();
+    feed_link(short_one, 6, 6);
+    CHECK(said_count == 0);
+    CHECK(ends_saying("1 refused 8\nend 1\n"));
+    start_link();
+    feed_link(short_one, 7, 3);
+    feed_link(empty_one, 6, 5);
+    CHECK(strcmp(said, "1 refused 9\n2 refused 10\n") == 0);
+    CHECK(ends_saying("1 refused 9\n2 refused 10\nend 2\n"));
+}
+
+/* 2,049 rows are refusal 2, but 10 goes before it: the normalise byte is remembered, and nothing else of the body is held. */
+static void test_link_skips(void) {
+    static unsigned char many[55 + 24 * 2049];
+    bool untouched = true;
+    size_t at;
+    for (at = 55; at < sizeof many; at += 1) {
+        many[at] = 0xAA;
+    }
+    put_fields(many, sizeof many - 6, 1, 1);
+    start_link();
+    feed_link(many, sizeof many, 5000);
+    many[54] = 255;
+    feed_link(many, sizeof many, 4999);
+    put_number(many + 4, 2, 2);
+    feed_link(many, sizeof many, 50000);
+    CHECK(ends_saying("1 refused 2\n2 refused 10\n3 refused 9\nend 3\n"));
+    for (at = 0; at < RAVELSICKLE_FLOATS; at += 1) {
+        untouched = untouched && same(the_link.rows[at], 0.0);
+    }
+    CHECK(untouched);
+}
+
+/* Refusal 12: after the end, and before a start, everything is as it was and nothing is printed. */
+static void test_link_refuses(void) {
+    static struct ravelsickle_link before;
+    unsigned char byte = 0;
+    struct ravelsickle_step step;
+    start_link();
+    feed_link(&byte, 1, 1);
+    CHECK(ends_saying("1 refused 8\nend 1\n"));
+    before = the_link;
+    step = ravelsickle_link_feed(&the_link, &byte, 1);
+    CHECK(step.refusal == RAVELSICKLE_ENDED && step.taken == 0 && step.printed == 0);
+    step = ravelsickle_link_feed(&the_link, &byte, 0);
+    CHECK(step.refusal == RAVELSICKLE_ENDED && step.taken == 0 && step.printed == 0);
+    step = ravelsickle_link_end(&the_link);
+    CHECK(step.refusal == RAVELSICKLE_ENDED && step.taken == 0 && step.printed == 0);
+    CHECK(memcmp(&before, &the_link, sizeof before) == 0);
+    memset(&the_link, 0, sizeof the_link);
+    CHECK(ravelsickle_link_feed(&the_link, &byte, 1).refusal == RAVELSICKLE_ENDED);
+}
+
+/* Bytes past the limit are taken and change nothing. */
+static void test_link_limit(void) {
+    unsigned char sample[206];
+    put_sample(sample);
+    start_link();
+    the_link.reader = ravelsickle_reader_start(104);
+    feed_link(sample, sizeof sample, 100);
+    CHECK(the_link.reader.left == 0 && the_link.reader.passed == 1);
+    CHECK(ends_saying("1 point 3FF0000000000000 3FF0000000000000 0 1 7\n2 refused 8\nend 2\n"));
+    CHECK(ravelsickle_reader_start(UINT64_MAX).left == RAVELSICKLE_MOST_BYTES);
+}
+
 /* Rows of which there is one more than an entry takes, with room for a float more. */
 static double *rows_past_the_limit(size_t too_many) {
     double *rows = (double *)malloc((3 * too_many + 1) * sizeof *rows);
@@ -459,6 +620,11 @@ int main(void) {
     test_recover_frame();
     test_recover_refuses(many, too_many);
     test_solve_refuses(many, same_many, too_many);
+    test_link();
+    test_link_cut();
+    test_link_skips();
+    test_link_refuses();
+    test_link_limit();
     free(many);
     free(same_many);
     printf("%u checks, %u failed\n", checks, failed);

@@ -10,29 +10,30 @@ extern long write(int file, const void *from, unsigned long bytes);
 
 static struct relay_call call;
 static double floats[RELAY_FLOATS];
+static unsigned char bytes[RELAY_BYTES];
 
-static bool take(void *to, unsigned long bytes) {
+static bool take(void *to, unsigned long length) {
     char *at = (char *)to;
-    while (bytes > 0) {
-        long got = read(0, at, bytes);
+    while (length > 0) {
+        long got = read(0, at, length);
         if (got <= 0) {
             return false;
         }
         at += got;
-        bytes -= (unsigned long)got;
+        length -= (unsigned long)got;
     }
     return true;
 }
 
-static bool give(const void *from, unsigned long bytes) {
+static bool give(const void *from, unsigned long length) {
     const char *at = (const char *)from;
-    while (bytes > 0) {
-        long gone = write(1, at, bytes);
+    while (length > 0) {
+        long gone = write(1, at, length);
         if (gone <= 0) {
             return false;
         }
         at += gone;
-        bytes -= (unsigned long)gone;
+        length -= (unsigned long)gone;
     }
     return true;
 }
@@ -68,6 +69,15 @@ static void make_call(void) {
     case RELAY_RECOVER:
         got->recovered = ravelsickle_recover_2d_prefix(floats, call.floats, given->recovery);
         break;
+    case RELAY_READER_START:
+        got->reader = ravelsickle_reader_start(given->limit);
+        break;
+    case RELAY_READER_FEED:
+        got->fed = ravelsickle_reader_feed(given->reader, call.head, floats, bytes, call.bytes, call.text);
+        break;
+    case RELAY_READER_END:
+        got->fed = ravelsickle_reader_end(given->reader, call.head, call.text);
+        break;
     default:
         break;
     }
@@ -76,6 +86,9 @@ static void make_call(void) {
 int main(void) {
     while (take(&call, sizeof call)) {
         if (call.floats > RELAY_FLOATS || !take(floats, call.floats * sizeof(double))) {
+            return 1;
+        }
+        if (call.bytes > RELAY_BYTES || !take(bytes, call.bytes)) {
             return 1;
         }
         make_call();

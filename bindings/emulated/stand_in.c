@@ -82,10 +82,10 @@ static void receive_bytes(void *to, size_t bytes) {
 }
 
 /* Makes the call. The floats come back into `back`, which is null where the entry only reads them. */
-static void relay(struct relay_call *call, const double *lent, double *back) {
+static void relay_with_bytes(struct relay_call *call, const double *lent, double *back, const unsigned char *bytes) {
     static double unwritten[RELAY_FLOATS];
-    if (call->floats > RELAY_FLOATS) {
-        give_up("more floats lent than cross to the emulator");
+    if (call->floats > RELAY_FLOATS || call->bytes > RELAY_BYTES) {
+        give_up("more lent than crosses to the emulator");
     }
     pthread_mutex_lock(&turn);
     if (to_server < 0) {
@@ -93,10 +93,13 @@ static void relay(struct relay_call *call, const double *lent, double *back) {
     }
     send_bytes(call, sizeof *call);
     send_bytes(lent, call->floats * sizeof(double));
+    send_bytes(bytes, call->bytes);
     receive_bytes(call, sizeof *call);
     receive_bytes(back != NULL ? back : unwritten, call->floats * sizeof(double));
     pthread_mutex_unlock(&turn);
 }
+
+static void relay(struct relay_call *call, const double *lent, double *back) { relay_with_bytes(call, lent, back, NULL); }
 
 static struct relay_call call_of(enum relay_entry entry, size_t floats) {
     struct relay_call call;
@@ -170,4 +173,36 @@ struct ravelsickle_recovered ravelsickle_recover_2d_prefix(const double *rows, s
     call.given.recovery = task;
     relay(&call, rows, NULL);
     return call.got.recovered;
+}
+
+struct ravelsickle_reader ravelsickle_reader_start(uint64_t limit) {
+    struct relay_call call = call_of(RELAY_READER_START, 0);
+    call.given.limit = limit;
+    relay(&call, NULL, NULL);
+    return call.got.reader;
+}
+
+struct ravelsickle_fed ravelsickle_reader_feed(struct ravelsickle_reader reader, unsigned char head[RAVELSICKLE_HEAD],
+                                               double rows[RAVELSICKLE_FLOATS], const unsigned char *bytes,
+                                               size_t bytes_count, unsigned char text[RAVELSICKLE_LINE]) {
+    struct relay_call call = call_of(RELAY_READER_FEED, RAVELSICKLE_FLOATS);
+    call.given.reader = reader;
+    call.bytes = bytes_count;
+    memcpy(call.head, head, RAVELSICKLE_HEAD);
+    memcpy(call.text, text, RAVELSICKLE_LINE);
+    relay_with_bytes(&call, rows, rows, bytes);
+    memcpy(head, call.head, RAVELSICKLE_HEAD);
+    memcpy(text, call.text, RAVELSICKLE_LINE);
+    return call.got.fed;
+}
+
+struct ravelsickle_fed ravelsickle_reader_end(struct ravelsickle_reader reader, const unsigned char head[RAVELSICKLE_HEAD],
+                                              unsigned char text[RAVELSICKLE_LINE]) {
+    struct relay_call call = call_of(RELAY_READER_END, 0);
+    call.given.reader = reader;
+    memcpy(call.head, head, RAVELSICKLE_HEAD);
+    memcpy(call.text, text, RAVELSICKLE_LINE);
+    relay(&call, NULL, NULL);
+    memcpy(text, call.text, RAVELSICKLE_LINE);
+    return call.got.fed;
 }

@@ -18,6 +18,8 @@ An entry that only reads (lp_1d, recover) takes a read-only buffer or a tuple as
 "No row" is None. A number that an answer does not have is None. A call that gives no answer raises Refusal, whose
 `number` is the refusal's number.
 
+Records that come off a link a few bytes at a time, cut anywhere, are answered by a Link.
+
 The entries are called in a shared object linked from the static library that `rt staticlib kernel` writes; bindings/run
 links it. RAVELSICKLE_SHARED names another one.
 """
@@ -29,16 +31,18 @@ import sys
 from array import array
 from dataclasses import dataclass
 from pathlib import Path
-from typing import Optional, Tuple
+from typing import List, Optional, Tuple
 
 __all__ = [
     "BEYOND",
+    "MOST_BYTES",
     "ROW_LIMIT",
     "UNLIMITED",
     "Answer",
     "Bounds",
     "Collector",
     "Frame",
+    "Link",
     "Refusal",
     "Solved",
     "Tolerances",
@@ -61,6 +65,9 @@ BEYOND = 1e6
 
 # The largest allowance. No solve takes as many readings.
 UNLIMITED = 2**64 - 1
+
+# Bytes of a link past this number of them count as not there.
+MOST_BYTES = 2**63
 
 
 @dataclass(frozen=True)
@@ -153,6 +160,7 @@ _REASONS = {
     6: "recovery found no point",
     7: "the prefix is longer than the rows",
     10: "the number for normalising names no mode",
+    12: "the link has been told its end",
 }
 
 
@@ -163,6 +171,7 @@ _number = ctypes.c_uint64
 _size = ctypes.c_size_t
 _flag = ctypes.c_bool
 _floats = ctypes.POINTER(ctypes.c_double)
+_bytes = ctypes.c_void_p
 
 
 class _Row(ctypes.Structure):
@@ -238,6 +247,21 @@ class _Recovered(ctypes.Structure):
     ]
 
 
+class _Reader(ctypes.Structure):
+    _fields_ = [("live", _number), ("lines", _number), ("left", _number), ("passed", _size), ("word", _number)]
+
+
+class _Fed(ctypes.Structure):
+    _fields_ = [("refusal", _number), ("taken", _size), ("printed", _size), ("reader", _Reader)]
+
+
+# The bytes of a record before its rows, the floats of the most rows that a record may have, and room for any text that a
+# call prints.
+_HEAD = 55
+_FLOATS = 6144
+_LINE = 149
+
+
 # Every entry: what it gives back, and what it is given. The records are those of bindings/c/ravelsickle.h.
 _ENTRIES = {
     "ravelsickle_root": (_double, [_double]),
@@ -248,6 +272,9 @@ _ENTRIES = {
     "ravelsickle_solve": (_Answered, [_floats, _size, _Task]),
     "ravelsickle_lp_2d_incre_max_y": (_Solution, [_floats, _size, _Task]),
     "ravelsickle_recover_2d_prefix": (_Recovered, [_floats, _size, _RecoveryTask]),
+    "ravelsickle_reader_start": (_Reader, [_number]),
+    "ravelsickle_reader_feed": (_Fed, [_Reader, _bytes, _floats, _bytes, _size, _bytes]),
+    "ravelsickle_reader_end": (_Fed, [_Reader, _bytes, _bytes]),
 }
 
 
@@ -560,3 +587,84 @@ def recover(rows, upto: int, at: Tuple[float, float], frame: Frame, collector: C
     _check(got.refusal)
     collector.first, collector.second = _row(got.has_first, got.first), _row(got.has_second, got.second)
     return got.x, got.y
+
+
+# ---- Records off a link ----
+
+
+def _portion(data) -> bytes:
+    """The bytes of a portion. What may be changed meanwhile is copied; bytes are taken as they are."""
+    try:
+        view = memoryview(data)
+    except TypeError:
+        raise TypeError(f"a portion is bytes, a bytearray or a memoryview, not {type(data).__name__}") from None
+    with view:
+        if view.itemsize != 1:
+            raise TypeError(f"the buffer holds elements of format {view.format!r}; a portion is bytes, format 'B'")
+        return data if type(data) is bytes else view.tobytes()
+
+
+class Link:
+    """A reader of records (section 12 of docs/RULES.md) that is fed portions of bytes, cut anywhere, and is then told the
+    end. However the bytes are cut, the lines are the same. They are given without their newlines.
+
+        >>> link = Link()
+        >>> link.feed(bytes([1, 0]))
+        []
+        >>> link.feed(bytes([0, 0, 9, 0, 255, 7, 7]))
+        ['1 refused 9']
+        >>> link.end()
+        ['2 refused 8', 'end 2']
+
+    Leaving a `with` block tells the end, unless it was told before or an error is on its way; the last lines are in `last`:
+
+        >>> with Link() as link:
+        ...     lines = link.feed(bytes([0, 0, 0, 0, 9, 0]))
+        >>> lines + link.last
+        ['1 refused 9', 'end 1']
+
+    Bytes past the first `limit` count as not there; a limit above MOST_BYTES is that number. A link holds the rows of one
+    record, and nothing of a record that is skipped: about 48 KiB. One thread at a time may call it."""
+
+    def __init__(self, limit: int = MOST_BYTES):
+        # the last lines; none until the end was told
+        self.last: List[str] = []
+        self._reader = _library.ravelsickle_reader_start(_whole(limit, "a limit", 64))
+        # what stands before the rows of the record in hand, and the floats of its rows
+        self._head = ctypes.create_string_buffer(_HEAD)
+        self._rows = (ctypes.c_double * _FLOATS)()
+        self._text = ctypes.create_string_buffer(_LINE)
+
+    def feed(self, data) -> List[str]:
+        """Takes all bytes of a portion (bytes, a bytearray, a memoryview) and gives the lines of the records that ended in
+        it. No bytes change nothing. Refusal 12 after the end, also for no bytes."""
+        portion = _portion(data)
+        begin = ctypes.cast(ctypes.c_char_p(portion), ctypes.c_void_p).value
+        lines, taken = [], 0
+        while True:
+            left = len(portion) - taken
+            feed = _library.ravelsickle_reader_feed
+            fed = feed(self._reader, self._head, self._rows, begin + taken, left, self._text)
+            lines += self._printed(fed)
+            taken += fed.taken
+            if taken == len(portion):
+                return lines
+
+    def end(self) -> List[str]:
+        """Tells the end, and gives the last lines: that of a record that is cut, refusal 8 in it, and the closing line.
+        Refusal 12 after the end."""
+        self.last = self._printed(_library.ravelsickle_reader_end(self._reader, self._head, self._text))
+        return self.last
+
+    def _printed(self, fed: _Fed) -> List[str]:
+        """The lines of a call, whose reader is kept."""
+        _check(fed.refusal)
+        self._reader = fed.reader
+        return self._text.raw[: fed.printed].decode("ascii").splitlines()
+
+    def __enter__(self) -> "Link":
+        return self
+
+    def __exit__(self, kind, error, trace) -> None:
+        if kind is None and self._reader.live:
+            self.end()

@@ -5,15 +5,17 @@ import doctest
 import math
 import os
 import pickle
+import random
 import struct
 import subprocess
 import sys
 import unittest
 from array import array
 from fractions import Fraction
+from pathlib import Path
 
 import ravelsickle
-from ravelsickle import Answer, Bounds, Collector, Frame, Refusal, Solved, Tolerances, WarmStart
+from ravelsickle import Answer, Bounds, Collector, Frame, Link, Refusal, Solved, Tolerances, WarmStart
 
 try:
     import numpy
@@ -28,6 +30,14 @@ TILTED_UNIT = [3 * 0.2, 0.8, 2.0, -3 * 0.2, 0.8, 2.0]
 # one row more than an entry takes
 TOO_MANY = [3.0, 4.0, 10.0] * (ravelsickle.ROW_LIMIT + 1)
 FRAME = Frame(bound=1e6, epsilon=1e-9, reduced=1e-8)
+# the lines of 13.12 in docs/RULES.md
+SAMPLE_LINES = [
+    "1 point 3FF0000000000000 3FF0000000000000 0 1 7",
+    "2 point 0000000000000000 4000000000000000 1 - 23",
+    "end 2",
+]
+# a record of kind 9 with an empty body
+STRANGE = bytes([0, 0, 0, 0, 9, 0])
 
 
 def by_rows(floats):
@@ -217,6 +227,7 @@ class SmallEntries(Checked):
     def test_a_refusal_says_its_number_and_why(self):
         self.assertEqual(str(Refusal(7)), "refusal 7: the prefix is longer than the rows")
         self.assertEqual(str(Refusal(10)), "refusal 10: the number for normalising names no mode")
+        self.assertEqual(str(Refusal(12)), "refusal 12: the link has been told its end")
         self.assertEqual(str(Refusal(99)), "refusal 99: a number that this module does not know")
 
     def test_a_pickled_refusal_comes_back_as_it_was(self):
@@ -394,6 +405,154 @@ class GivingNumpy(Checked):
         with self.assertRaisesRegex(ValueError, "read-only"):
             ravelsickle.solve(rows)
         self.assertEqual(ravelsickle.lp_1d(numpy.array([[1.0, 5.0], [-1.0, -2.0]]), True), Bounds(5.0, 2.0))
+
+
+def record(floats, normalize=0):
+    """A record with the usual task, allowance 1000 and this normalise byte."""
+    body = struct.pack("<4d2QB", 1e-9, 10.0, 0.0, ravelsickle.BEYOND, 0, 1000, normalize)
+    body += struct.pack(f"<{len(floats)}d", *floats)
+    return struct.pack("<IH", len(body), 1) + body
+
+
+# the records of 13.12
+SAMPLE = record(S3) + record(S4)
+
+
+def in_pieces(data, size):
+    return [data[at : at + size] for at in range(0, len(data), size)]
+
+
+def cut_at_random(data, most, seed):
+    """The bytes in portions of up to `most`, now and then of one."""
+    chance = random.Random(seed)
+    portions = []
+    while data:
+        size = 1 if chance.randrange(8) == 0 else chance.randint(1, most)
+        portions.append(data[:size])
+        data = data[size:]
+    return portions
+
+
+def fed(portions, **named):
+    """All that a link gives for these portions and the end."""
+    link = Link(**named)
+    return [line for portion in portions for line in link.feed(portion)] + link.end()
+
+
+class Linking(Checked):
+    def test_the_sample_in_every_cut(self):
+        self.assertEqual(fed([SAMPLE]), SAMPLE_LINES)
+        for at in range(len(SAMPLE) + 1):
+            self.assertEqual(fed([SAMPLE[:at], SAMPLE[at:]]), SAMPLE_LINES)
+        self.assertEqual(fed(in_pieces(SAMPLE, 1)), SAMPLE_LINES)
+
+    def test_a_line_comes_with_the_last_byte_of_its_record(self):
+        link = Link()
+        first, second = len(record(S3)), len(SAMPLE)
+        self.assertEqual(link.feed(SAMPLE[: first - 1]), [])
+        self.assertEqual(link.feed(SAMPLE[first - 1 : second - 1]), SAMPLE_LINES[:1])
+        self.assertEqual(link.feed(SAMPLE[second - 1 :]), SAMPLE_LINES[1:2])
+
+    def test_the_records_of_rowrun_cut_at_random(self):
+        folder = Path(__file__).resolve().parents[2] / "crates" / "rowrun"
+        records, lines = (folder / "stdin").read_bytes(), (folder / "stdout").read_text().splitlines()
+        self.assertEqual(fed([records]), lines)
+        for seed, most in ((1, 100), (2, 1000), (3, 30000)):
+            self.assertEqual(fed(cut_at_random(records, most, seed)), lines)
+
+    def test_an_empty_body_has_its_line_with_the_sixth_byte(self):
+        for kind, line in ((1, "1 refused 10"), (9, "1 refused 9")):
+            link = Link()
+            self.assertEqual(link.feed(bytes([0, 0, 0, 0, kind])), [])
+            self.assertEqual(link.feed(bytes([0])), [line])
+
+    def test_a_body_that_never_comes_is_cut(self):
+        header = bytes([1, 0, 0, 0, 9, 0])
+        self.assertEqual(fed([header]), ["1 refused 8", "end 1"])
+        self.assertEqual(fed([header[:1]]), ["1 refused 8", "end 1"])
+        self.assertEqual(fed([header, b"7"]), ["1 refused 9", "end 1"])
+        self.assertEqual(fed([]), ["end 0"])
+
+    def test_a_skipped_body_of_too_many_rows(self):
+        floats = [0.0, 1.0, 1.0] * 2049
+        for normalize, refusal in ((0, 2), (1, 2), (2, 10), (255, 10)):
+            records = record(floats, normalize) + STRANGE
+            lines = [f"1 refused {refusal}", "2 refused 9", "end 2"]
+            self.assertEqual(fed([records]), lines)
+            self.assertEqual(fed(in_pieces(records, 997)), lines)
+
+    def test_portions_of_no_bytes_change_nothing(self):
+        portions = [b""]
+        for portion in in_pieces(SAMPLE, 11):
+            portions += [portion, b"", b""]
+        self.assertEqual(fed(portions), SAMPLE_LINES)
+
+    def state(self, link):
+        """All that a link holds."""
+        return bytes(link._reader), bytes(link._head), bytes(link._rows), link._text.raw, list(link.last)
+
+    def test_refusal_12_changes_nothing(self):
+        for begun in (b"", SAMPLE, SAMPLE[:-20]):
+            link = Link()
+            link.feed(begun)
+            link.end()
+            before = self.state(link)
+            for call in (lambda: link.feed(STRANGE), lambda: link.feed(b""), link.end) * 2:
+                self.refused(12, call)
+                self.assertEqual(self.state(link), before)
+
+    def test_bytes_past_a_limit_count_as_not_there(self):
+        records = 3 * STRANGE
+        for limit in range(len(records) + 2):
+            said = fed([records[:limit]])
+            self.assertEqual(fed([records], limit=limit), said)
+            self.assertEqual(fed(in_pieces(records, 1), limit=limit), said)
+        for limit in (ravelsickle.MOST_BYTES, 2**64 - 1):
+            self.assertEqual(self.state(Link(limit)), self.state(Link()))
+        for limit in (-1, 2**64):
+            with self.assertRaisesRegex(ValueError, "a limit is a whole number"):
+                Link(limit)
+
+    def test_every_kind_of_portion(self):
+        apart = memoryview(bytes(x for byte in SAMPLE for x in (byte, 255)))[::2]
+        for portion in (bytearray(SAMPLE), memoryview(SAMPLE), apart, array("B", SAMPLE), memoryview(SAMPLE).cast("c")):
+            self.assertEqual(fed([portion]), SAMPLE_LINES)
+        grows = bytearray(SAMPLE)
+        link = Link()
+        link.feed(grows)
+        grows.append(0)
+
+    def test_other_things_are_refused_in_words(self):
+        link = Link()
+        for portion in ("text", 5, None, [0, 0], iter(b"")):
+            with self.assertRaisesRegex(TypeError, "a portion is bytes"):
+                link.feed(portion)
+        with self.assertRaisesRegex(TypeError, "format 'd'; a portion is bytes"):
+            link.feed(array("d", S3))
+        self.assertEqual(link.feed(SAMPLE) + link.end(), SAMPLE_LINES)
+
+    def test_leaving_a_block_tells_the_end(self):
+        with Link() as link:
+            self.assertEqual(link.feed(SAMPLE), SAMPLE_LINES[:2])
+            self.assertEqual(link.last, [])
+        self.assertEqual(link.last, SAMPLE_LINES[2:])
+        self.refused(12, link.feed, SAMPLE)
+        with Link() as link:
+            link.feed(SAMPLE[:-1])
+        self.assertEqual(link.last, ["2 refused 8", "end 2"])
+
+    def test_an_end_that_was_told_is_not_told_again(self):
+        with Link() as link:
+            said = link.end()
+        self.assertEqual((said, link.last), (["end 0"], ["end 0"]))
+
+    def test_an_error_on_its_way_tells_no_end(self):
+        with self.assertRaises(ZeroDivisionError):
+            with Link() as link:
+                link.feed(SAMPLE[:-1])
+                1 / 0
+        self.assertEqual(link.last, [])
+        self.assertEqual(link.feed(SAMPLE[-1:]) + link.end(), SAMPLE_LINES[1:])
 
 
 class Module(unittest.TestCase):

@@ -3,6 +3,15 @@
 
 use crate::Row;
 
+/// `RAVELSICKLE_HEAD`: the bytes of a record before its rows.
+pub(crate) const HEAD: usize = 55;
+
+/// `RAVELSICKLE_FLOATS`: the floats of the most rows that a record may have.
+pub(crate) const FLOATS: usize = 6144;
+
+/// `RAVELSICKLE_LINE`: room for any text that a call prints.
+pub(crate) const LINE: usize = 149;
+
 /// `struct ravelsickle_task`.
 #[repr(C)]
 pub(crate) struct Task {
@@ -89,6 +98,26 @@ pub(crate) struct Recovered {
     pub(crate) has_second: bool,
 }
 
+/// `struct ravelsickle_reader`.
+#[repr(C)]
+#[derive(Clone, Copy, Debug, PartialEq, Eq)]
+pub(crate) struct Reader {
+    pub(crate) live: u64,
+    pub(crate) lines: u64,
+    pub(crate) left: u64,
+    pub(crate) passed: usize,
+    pub(crate) word: u64,
+}
+
+/// `struct ravelsickle_fed`.
+#[repr(C)]
+pub(crate) struct Fed {
+    pub(crate) refusal: u64,
+    pub(crate) taken: usize,
+    pub(crate) printed: usize,
+    pub(crate) reader: Reader,
+}
+
 extern "C" {
     pub(crate) fn ravelsickle_root(x: f64) -> f64;
 
@@ -113,4 +142,21 @@ extern "C" {
         floats: usize,
         task: RecoveryTask,
     ) -> Recovered;
+
+    pub(crate) fn ravelsickle_reader_start(limit: u64) -> Reader;
+
+    pub(crate) fn ravelsickle_reader_feed(
+        reader: Reader,
+        head: *mut [u8; HEAD],
+        rows: *mut [f64; FLOATS],
+        bytes: *const u8,
+        bytes_count: usize,
+        text: *mut [u8; LINE],
+    ) -> Fed;
+
+    pub(crate) fn ravelsickle_reader_end(
+        reader: Reader,
+        head: *const [u8; HEAD],
+        text: *mut [u8; LINE],
+    ) -> Fed;
 }

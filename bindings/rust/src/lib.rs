@@ -15,14 +15,18 @@
 //! # Ok::<(), ravelsickle::Refusal>(())
 //! ```
 //!
+//! Records that come off a link a few bytes at a time, cut anywhere, are answered by a [`Link`], or read by [`Lines`].
+//!
 //! The library computes with the processor's own floats, so the floating-point unit has to round to nearest and keep
 //! subnormal numbers, as it does unless a program changes it.
 
 #![deny(missing_docs)]
 
 mod entries;
+mod link;
 mod refusal;
 
+pub use link::{End, Feed, Line, Lines, Link, Taken, MOST_BYTES};
 pub use refusal::Refusal;
 
 /// The most rows, or pairs, that an entry takes.

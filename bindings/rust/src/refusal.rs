@@ -31,6 +31,8 @@ pub enum Refusal {
     /// 10: the number for normalising names no mode of the library. Everything lent is unchanged. No call of this crate
     /// passes such a number, unless the library is older than it.
     NoSuchMode,
+    /// 12: a [`Link`](crate::Link) was fed, or told the end, after its end. Nothing is changed or printed.
+    Ended,
     /// A number that this crate does not know: the library is newer than it.
     Unknown(u64),
 }
@@ -51,6 +53,7 @@ impl Refusal {
             Refusal::NotRecovered => 6,
             Refusal::PrefixTooLong => 7,
             Refusal::NoSuchMode => 10,
+            Refusal::Ended => 12,
             Refusal::Unknown(number) => number,
         }
     }
@@ -66,6 +69,7 @@ impl Refusal {
             6 => Refusal::NotRecovered,
             7 => Refusal::PrefixTooLong,
             10 => Refusal::NoSuchMode,
+            12 => Refusal::Ended,
             _ => Refusal::Unknown(number),
         }
     }
@@ -92,6 +96,7 @@ impl fmt::Display for Refusal {
             Refusal::NotRecovered => write!(f, "recovery found no point"),
             Refusal::PrefixTooLong => write!(f, "the prefix is longer than the rows"),
             Refusal::NoSuchMode => write!(f, "the number for normalising names no mode"),
+            Refusal::Ended => write!(f, "the link has been told its end"),
             Refusal::Unknown(_) => write!(f, "a number that this crate does not know"),
         }
     }
@@ -112,6 +117,7 @@ mod tests {
         assert_eq!(Refusal::check(3, 9), Err(Refusal::Stopped { count: 9 }));
         assert_eq!(Refusal::check(4, 9), Err(Refusal::NoReturn { count: 9 }));
         assert_eq!(Refusal::check(10, 9), Err(Refusal::NoSuchMode));
+        assert_eq!(Refusal::check(12, 9), Err(Refusal::Ended));
         assert_eq!(Refusal::check(8, 9), Err(Refusal::Unknown(8)));
     }
 
@@ -125,6 +131,10 @@ mod tests {
         assert_eq!(
             Refusal::TooMany.to_string(),
             "refusal 2: more than 4096 rows or pairs"
+        );
+        assert_eq!(
+            Refusal::Ended.to_string(),
+            "refusal 12: the link has been told its end"
         );
     }
 }
