@@ -11,7 +11,7 @@
 
 typedef uint64_t word;
 
-enum { ROOTS, FUSEDS, NORMALIZE, TWO, LINE, SOLVE, RECOVER, OWN, ROWS };
+enum { ROOTS, FUSEDS, NORMALIZE, TWO, LINE, SOLVE, RECOVER, OWN, ROWS, LINK };
 
 /* A batch and its answer have at most this many words. */
 #define MOST (1ul << 21)
@@ -89,6 +89,65 @@ static void put_pair(word *r, word refusal, double x, double y) {
     r[2] = as_word(y);
 }
 
+/* A reader's memory, and room for a text with the bytes that fill up its last word. */
+#define HEAD_WORDS ((RAVELSICKLE_HEAD + 7) / 8)
+#define TEXT_WORDS ((RAVELSICKLE_LINE + 7) / 8)
+static unsigned char head[8 * HEAD_WORDS];
+static double rows[RAVELSICKLE_FLOATS];
+
+static void fill(unsigned char *to, unsigned char value, word bytes) {
+    for (word i = 0; i < bytes; i++) to[i] = value;
+}
+
+static void put_fed(word *r, struct ravelsickle_fed f) {
+    r[0] = f.refusal;
+    r[1] = f.taken;
+    r[2] = f.printed;
+    r[3] = f.reader.live;
+    r[4] = f.reader.lines;
+    r[5] = f.reader.left;
+    r[6] = f.reader.passed;
+    r[7] = f.reader.word;
+}
+
+/* A reader is started with a limit and offered, one after the other, so many of the bytes that it has not taken yet; an offer of
+   2^64 - 1 tells the end. What each leaves is answered, and then its memory: so many floats as are to be shown, and how many of the
+   others have changed. */
+static word run_session(const word *q, word *r, word *written) {
+    word shown = q[2], left = q[3], changed = 0, *begin = r;
+    const unsigned char *bytes = (const unsigned char *)(q + 4);
+    const word *offers = q + 4 + (left + 7) / 8;
+    struct ravelsickle_reader reader = ravelsickle_reader_start(q[1]);
+    fill(head, 0xA5, sizeof head);
+    for (word i = 0; i < RAVELSICKLE_FLOATS; i++) rows[i] = 7.5;
+    for (word i = 1; i <= offers[0]; i++) {
+        word offer = offers[i] < left ? offers[i] : left;
+        unsigned char *text = (unsigned char *)(r + 8);
+        struct ravelsickle_fed fed;
+        fill(text, 0x5A, 8 * TEXT_WORDS);
+        if (offers[i] == ~0ul) {
+            fed = ravelsickle_reader_end(reader, head, text);
+        } else {
+            fed = ravelsickle_reader_feed(reader, head, rows, bytes, offer, text);
+        }
+        put_fed(r, fed);
+        reader = fed.reader;
+        if (fed.taken > left) stop(4);
+        bytes += fed.taken;
+        left -= fed.taken;
+        r += 8 + TEXT_WORDS;
+    }
+    copy(r, (const word *)head, HEAD_WORDS);
+    r += HEAD_WORDS;
+    for (word i = 0; i < RAVELSICKLE_FLOATS; i++) {
+        if (i < shown) r[i] = as_word(rows[i]);
+        if (i >= shown && as_word(rows[i]) != as_word(7.5)) changed++;
+    }
+    r[shown] = changed;
+    *written = (word)(r + shown + 1 - begin);
+    return (word)(offers + 1 + offers[0] - q);
+}
+
 /* Answers one call; gives its length and, through `written`, that of its answer. */
 static word answer(const word *q, word *r, word *written) {
     word n;
@@ -159,6 +218,8 @@ static word answer(const word *q, word *r, word *written) {
         *written = 7;
         return 12 + n;
     }
+    case LINK:
+        return run_session(q, r, written);
     }
     stop(2);
     return 0;

@@ -17,6 +17,7 @@ use direct as back;
 use std::collections::BTreeSet;
 use std::sync::Mutex;
 
+use crate::link::{Left, Session};
 use crate::original::Recovery;
 use crate::records::{
     LineSetting, Pair, Plane, Record, RecoveredPoint, RecoverySetting, Setting, Solution, Solved,
@@ -88,6 +89,11 @@ pub enum Call {
         rows: Vec<f64>,
         setting: RecoverySetting,
         out: RecoveredPoint,
+    },
+    /// A reader is started, fed and told the end: calls of its three entries, one after the other.
+    Link {
+        session: Session,
+        left: Left,
     },
 }
 
@@ -169,18 +175,30 @@ impl Call {
         }
     }
 
-    /// The library's symbol that the call is made to.
-    fn symbol(&self) -> &'static str {
+    pub fn link(session: Session) -> Call {
+        Call::Link {
+            session,
+            left: Left::default(),
+        }
+    }
+
+    /// The library's symbols that the call is made to.
+    fn symbols(&self) -> &'static [&'static str] {
         match self {
-            Call::Roots { .. } => "ravelsickle_root",
-            Call::Fuseds { .. } => "ravelsickle_fused",
-            Call::Normalize { .. } => "ravelsickle_normalize",
-            Call::Two { .. } => "ravelsickle_solve_2x2",
-            Call::Line { .. } => "ravelsickle_lp_1d",
-            Call::Solve { .. } => "ravelsickle_solve",
-            Call::Rows { .. } => "ravelsickle_solve_rows",
-            Call::Own { .. } => "ravelsickle_lp_2d_incre_max_y",
-            Call::Recover { .. } => "ravelsickle_recover_2d_prefix",
+            Call::Roots { .. } => &["ravelsickle_root"],
+            Call::Fuseds { .. } => &["ravelsickle_fused"],
+            Call::Normalize { .. } => &["ravelsickle_normalize"],
+            Call::Two { .. } => &["ravelsickle_solve_2x2"],
+            Call::Line { .. } => &["ravelsickle_lp_1d"],
+            Call::Solve { .. } => &["ravelsickle_solve"],
+            Call::Rows { .. } => &["ravelsickle_solve_rows"],
+            Call::Own { .. } => &["ravelsickle_lp_2d_incre_max_y"],
+            Call::Recover { .. } => &["ravelsickle_recover_2d_prefix"],
+            Call::Link { .. } => &[
+                "ravelsickle_reader_start",
+                "ravelsickle_reader_feed",
+                "ravelsickle_reader_end",
+            ],
         }
     }
 }
@@ -214,7 +232,7 @@ impl Kernel {
         CALLED
             .lock()
             .expect("no thread fails while it notes calls")
-            .extend(calls.iter().map(Call::symbol));
+            .extend(calls.iter().flat_map(Call::symbols));
         if let Some(rng) = &mut self.spoil
             && !calls.is_empty()
         {
@@ -265,5 +283,27 @@ fn spoil(call: &mut Call, rng: &mut Rng) {
         }
         Call::Own { rows, out, .. } => spoil_either(rows, out, rng),
         Call::Recover { out, .. } => spoil_record(out, rng),
+        Call::Link { left, .. } => spoil_left(left, rng),
+    }
+}
+
+/// Changes one bit of what an offer left, or of what is held.
+fn spoil_left(left: &mut Left, rng: &mut Rng) {
+    match rng.below(4) {
+        0 => {
+            let at = rng.size(0, left.head.len() - 1);
+            left.head[at] ^= 1;
+        }
+        1 => left.changed ^= 1,
+        part => {
+            let at = rng.size(0, left.steps.len() - 1);
+            let step = &mut left.steps[at];
+            if part == 2 {
+                spoil_record(&mut step.fed, rng);
+            } else {
+                let at = rng.size(0, step.text.len() - 1);
+                step.text[at] ^= 1;
+            }
+        }
     }
 }

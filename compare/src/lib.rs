@@ -18,6 +18,7 @@ pub mod counted;
 pub mod entries;
 pub mod floats;
 pub mod kernel;
+pub mod link;
 pub mod original;
 pub mod probe;
 pub mod records;

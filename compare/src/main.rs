@@ -11,7 +11,7 @@ use compare::kernel::Kernel;
 use compare::report::{Difference, Verdict, differs_on_line};
 use compare::rng::Rng;
 use compare::task::Task;
-use compare::{entries, floats, kernel, original, probe, refusals, solves, stream, values};
+use compare::{entries, floats, kernel, link, original, probe, refusals, solves, stream, values};
 
 const USAGE: &str = "compare [options]
   --quick            a hundredth of everything
@@ -134,7 +134,7 @@ const STREAMS: &str = "rowrun-streams";
 const LAST_SOLVES: usize = 15;
 
 /// A family's place is part of its seed, so a new one stands at the end.
-const FAMILIES: [Family; 25] = [
+const FAMILIES: [Family; 26] = [
     solve_family("solve-random", 1_000_000, solves::random),
     solve_family("solve-parallel", 1_000_000, solves::parallel),
     solve_family("solve-duplicated", 700_000, solves::duplicated),
@@ -160,6 +160,7 @@ const FAMILIES: [Family; 25] = [
     case_family("fused", 100_000_000, floats::fuseds),
     case_family(STREAMS, 1_000_000, stream::streams),
     solve_family("solve-thresholds", 500_000, solves::thresholds),
+    case_family("link", 1_000_000, link::links),
 ];
 
 /// Streams that the kernel's calls take: the place of a family, its part, and apart from these what is spoilt.
@@ -292,7 +293,10 @@ fn run_vectors(options: &Options) -> Result<u64, String> {
         return Ok(0);
     };
     let since = Instant::now();
-    let verdict = Kernel::new().and_then(|mut kernel| stream::check_vectors(folder, &mut kernel));
+    let verdict = Kernel::new().and_then(|mut kernel| {
+        let records = stream::check_vectors(folder, &mut kernel)?;
+        Ok(records + link::check_vectors(folder, &mut kernel)?)
+    });
     probe::hand_in();
     let (cases, differences) = match &verdict {
         Ok(records) => (*records, 0),

@@ -164,6 +164,50 @@ record! {
     }
 }
 
+record! {
+    /// `struct ravelsickle_reader`.
+    Reader { live: u64, lines: u64, left: u64, passed: usize, word: u64, }
+}
+
+record! {
+    /// `struct ravelsickle_fed`, with the numbers of its reader.
+    Fed {
+        refusal: u64,
+        taken: usize,
+        printed: usize,
+        live: u64,
+        lines: u64,
+        left: u64,
+        passed: usize,
+        word: u64,
+    }
+}
+
+impl Fed {
+    pub fn of(refusal: u64, taken: usize, printed: usize, reader: Reader) -> Fed {
+        Fed {
+            refusal,
+            taken,
+            printed,
+            live: reader.live,
+            lines: reader.lines,
+            left: reader.left,
+            passed: reader.passed,
+            word: reader.word,
+        }
+    }
+
+    pub fn reader(&self) -> Reader {
+        Reader {
+            live: self.live,
+            lines: self.lines,
+            left: self.left,
+            passed: self.passed,
+            word: self.word,
+        }
+    }
+}
+
 /// The kind of a record without an answer.
 pub const UNANSWERED: u64 = 0;
 

@@ -22,14 +22,14 @@ fn float_at(bytes: &[u8], at: usize) -> f64 {
     f64::from_bits(number_at(bytes, at))
 }
 
-fn number_at(bytes: &[u8], at: usize) -> u64 {
+pub(crate) fn number_at(bytes: &[u8], at: usize) -> u64 {
     let mut eight = [0; 8];
     eight.copy_from_slice(&bytes[at..at + 8]);
     u64::from_le_bytes(eight)
 }
 
 /// What a body of kind 1 says, or the refusal of a body that says nothing.
-fn decode_body(body: &[u8]) -> Result<(Task, u64), u64> {
+pub(crate) fn decode_body(body: &[u8]) -> Result<(Task, u64), u64> {
     if body.len() < FIXED || !(body.len() - FIXED).is_multiple_of(ROW) || body[FIXED - 1] > 1 {
         return Err(10);
     }
@@ -53,13 +53,13 @@ fn decode_body(body: &[u8]) -> Result<(Task, u64), u64> {
 }
 
 /// One record of a stream.
-enum Piece<'a> {
+pub(crate) enum Piece<'a> {
     Cut,
     Whole(u16, &'a [u8]),
 }
 
 /// The records of a stream, the cut one last.
-fn pieces(bytes: &[u8]) -> Vec<Piece<'_>> {
+pub(crate) fn pieces(bytes: &[u8]) -> Vec<Piece<'_>> {
     let mut found = Vec::new();
     let mut rest = bytes;
     while !rest.is_empty() {
@@ -95,7 +95,7 @@ fn answer_text(expected: &Expected) -> String {
     }
 }
 
-fn piece_text(piece: &Piece<'_>) -> Result<String, String> {
+pub(crate) fn piece_text(piece: &Piece<'_>) -> Result<String, String> {
     let refused = |number: u64| Ok(format!("refused {number}"));
     match piece {
         Piece::Cut => refused(8),
@@ -131,14 +131,14 @@ fn same_word(left: &str, right: &str) -> bool {
     left == right || (ZEROS.contains(&left) && ZEROS.contains(&right))
 }
 
-fn same_line(left: &str, right: &str) -> bool {
+pub(crate) fn same_line(left: &str, right: &str) -> bool {
     let (left, right): (Vec<&str>, Vec<&str>) =
         (left.split(' ').collect(), right.split(' ').collect());
     left.len() == right.len() && left.iter().zip(&right).all(|(l, r)| same_word(l, r))
 }
 
 /// The first line in which two outputs differ.
-fn first_difference(wanted: &[String], got: &str) -> Option<String> {
+pub(crate) fn first_difference(wanted: &[String], got: &str) -> Option<String> {
     let mut got_lines = got.split('\n');
     for line in wanted {
         let other = got_lines.next().unwrap_or("");
@@ -264,7 +264,7 @@ fn unknown_kind(rng: &mut Rng) -> u16 {
 }
 
 /// A record that keeps the stream in step: good, flipped, of wrong size, of unknown kind, or with a wrong normalise byte.
-fn damaged_record(rng: &mut Rng) -> Vec<u8> {
+pub(crate) fn damaged_record(rng: &mut Rng) -> Vec<u8> {
     match rng.below(200) {
         0..=89 => record(1, &good_body(rng)),
         90..=139 => {

@@ -1,4 +1,5 @@
-//! How many records a second `rowrun` answers from a file, beside how many solves a second the library makes of the same rows.
+//! How many records a second `rowrun` answers from a file, beside how many the library's reader answers that is fed the same bytes
+//! in portions, and how many solves a second the library makes of the same rows.
 //!
 //! Records of 30 planner rows, started at the box's edge, not normalised. The least time over some rounds counts. It is told
 //! where the library is linked and the program runs without an emulator: on x86-64, and with `compare/run --native` elsewhere.
@@ -25,6 +26,9 @@ const ROWS: usize = 30;
 const DIFFERENT: usize = 2000;
 /// Readings that no record of these needs.
 const ALLOWANCE: u64 = 1_000_000;
+
+/// The sizes of portions that a reader is fed.
+const PORTIONS: [usize; 3] = [1, 16, 4096];
 
 struct Options {
     rowrun: String,
@@ -70,10 +74,13 @@ fn tasks() -> Vec<Task> {
         .collect()
 }
 
-fn write_records(path: &Path, tasks: &[Task], records: usize) -> Result<(), String> {
-    let bytes: Vec<u8> = (0..records)
+fn record_bytes(tasks: &[Task], records: usize) -> Vec<u8> {
+    (0..records)
         .flat_map(|number| tasks[number % tasks.len()].record(ALLOWANCE))
-        .collect();
+        .collect()
+}
+
+fn write_records(path: &Path, bytes: &[u8]) -> Result<(), String> {
     std::fs::write(path, bytes).map_err(|error| format!("{}: {error}", path.display()))
 }
 
@@ -103,9 +110,26 @@ mod solves {
     use std::hint::black_box;
     use std::time::Instant;
 
-    use compare::kernel::direct;
+    use compare::kernel::direct::{self, Link};
     use compare::records::Setting;
     use compare::task::Task;
+
+    /// The seconds in which a reader that is fed portions of so many bytes gives the records' lines, and how many these are.
+    pub fn fed_seconds(bytes: &[u8], portion: usize) -> (f64, u64) {
+        let mut link = Box::new(Link::new(1 << 63));
+        let mut lines = 0;
+        let begun = Instant::now();
+        for portion in bytes.chunks(portion) {
+            let mut rest = portion;
+            while !rest.is_empty() {
+                let fed = link.feed(black_box(rest));
+                black_box(&link.text);
+                lines = fed.lines;
+                rest = &rest[fed.taken..];
+            }
+        }
+        (begun.elapsed().as_secs_f64(), lines)
+    }
 
     /// The seconds that the solves of the records take, each of rows that are restored first.
     pub fn seconds(tasks: &[Task], records: usize) -> f64 {
@@ -131,6 +155,10 @@ mod solves {
     pub fn seconds(_: &[Task], _: usize) -> f64 {
         f64::NAN
     }
+
+    pub fn fed_seconds(_: &[u8], _: usize) -> (f64, u64) {
+        (f64::NAN, 0)
+    }
 }
 
 fn run(options: &Options) -> Result<(), String> {
@@ -139,8 +167,10 @@ fn run(options: &Options) -> Result<(), String> {
     }
     let tasks = tasks();
     let path = Path::new(&options.room).join(format!("records-{}.bin", std::process::id()));
-    write_records(&path, &tasks, options.records)?;
+    let bytes = record_bytes(&tasks, options.records);
+    write_records(&path, &bytes)?;
     let (mut whole, mut solved) = (f64::INFINITY, f64::INFINITY);
+    let mut fed = [f64::INFINITY; PORTIONS.len()];
     let mut outcome = Ok(());
     for _ in 0..options.rounds {
         match answer(&options.rowrun, &path, options.records) {
@@ -151,12 +181,26 @@ fn run(options: &Options) -> Result<(), String> {
             }
         }
         solved = solved.min(solves::seconds(&tasks, options.records));
+        for (least, portion) in fed.iter_mut().zip(PORTIONS) {
+            let (seconds, lines) = solves::fed_seconds(&bytes, portion);
+            if lines != options.records as u64 {
+                outcome = Err(format!("fed {portion} bytes at a time: {lines} lines"));
+            }
+            *least = least.min(seconds);
+        }
     }
     std::fs::remove_file(&path).map_err(|error| format!("{}: {error}", path.display()))?;
     outcome?;
     let records = options.records as f64;
     println!("records of {ROWS} rows: {} from a file", options.records);
     println!("rowrun answers {:.0} a second", records / whole);
+    for (seconds, portion) in fed.iter().zip(PORTIONS) {
+        println!(
+            "fed {portion} bytes at a time: {:.0} a second, {:.2} of rowrun's time",
+            records / seconds,
+            seconds / whole
+        );
+    }
     println!(
         "the solves alone: {:.0} a second, {:.2} of rowrun's time",
         records / solved,

@@ -5,6 +5,7 @@ use std::io::{Read, Write};
 use std::process::{Child, ChildStdin, ChildStdout, Command, Stdio};
 
 use super::Call;
+use crate::link::{HEAD, Left, Session, Step, TEXT};
 use crate::records::Record;
 
 /// The numbers of the calls, as `bridge.c` has them.
@@ -17,6 +18,7 @@ const SOLVE: u64 = 5;
 const RECOVER: u64 = 6;
 const OWN: u64 = 7;
 const ROWS: u64 = 8;
+const LINK: u64 = 9;
 
 /// Batches are cut so that neither they nor their answers come near the bridge's limit of 2^21 words.
 const MOST_WORDS: usize = 1 << 20;
@@ -62,7 +64,23 @@ fn push_call(words: &mut Vec<u64>, call: &Call) {
         Call::Rows { rows, setting, .. } => push_task(words, ROWS, setting, rows),
         Call::Own { rows, setting, .. } => push_task(words, OWN, setting, rows),
         Call::Recover { rows, setting, .. } => push_task(words, RECOVER, setting, rows),
+        Call::Link { session, .. } => {
+            words.extend([LINK, session.limit, session.shown as u64]);
+            words.push(session.bytes.len() as u64);
+            push_bytes(words, &session.bytes);
+            words.push(session.offers.len() as u64);
+            words.extend(&session.offers);
+        }
     }
+}
+
+/// Bytes, eight to a word, the last word filled up.
+fn push_bytes(words: &mut Vec<u64>, bytes: &[u8]) {
+    words.extend(bytes.chunks(8).map(|part| {
+        let mut eight = [0; 8];
+        eight[..part.len()].copy_from_slice(part);
+        u64::from_le_bytes(eight)
+    }));
 }
 
 /// A call's number, its record and what is lent to it.
@@ -93,6 +111,26 @@ impl Answers<'_> {
         (0..count).map(|_| self.float()).collect()
     }
 
+    fn bytes(&mut self, count: usize) -> Result<Vec<u8>, String> {
+        let words: Result<Vec<u64>, String> = (0..count.div_ceil(8)).map(|_| self.word()).collect();
+        let mut bytes: Vec<u8> = words?.iter().flat_map(|word| word.to_le_bytes()).collect();
+        bytes.truncate(count);
+        Ok(bytes)
+    }
+
+    fn left(&mut self, session: &Session) -> Result<Left, String> {
+        let mut left = Left::default();
+        for _ in &session.offers {
+            let fed = self.record()?;
+            let text = self.bytes(TEXT)?;
+            left.steps.push(Step { fed, text });
+        }
+        left.head = self.bytes(HEAD)?;
+        left.rows = self.floats(session.shown)?;
+        left.changed = self.word()?;
+        Ok(left)
+    }
+
     fn record<R: Record>(&mut self) -> Result<R, String> {
         let words: Result<Vec<u64>, String> = (0..R::WORDS).map(|_| self.word()).collect();
         words.map(|words| R::of_words(&words))
@@ -117,6 +155,7 @@ impl Answers<'_> {
                 *rows = self.floats(rows.len())?;
             }
             Call::Recover { out, .. } => *out = self.record()?,
+            Call::Link { session, left } => *left = self.left(session)?,
         }
         Ok(())
     }
