@@ -7,10 +7,11 @@ use native.Mathlib.Nat.{zero-add, add-assoc, sub-zero, sub-add-eq}
 use native.Mathlib.Omega.{arith}
 use lib.Ieee.{Float}
 use lib.ListN.{length, take, drop, length-append, length-drop, drop-of-length-le}
-use lib.Seq.{length-take-le, take-all, take-add, drop-drop}
+use lib.Seq.{length-take-le, take-add, drop-drop}
 use Rattle.text.specs.Sizes.{longestLine}
 use Rattle.text.specs.Text.{written}
 use Rattle.text.proofs.Written.{Put, then-put}
+use Rattle.record.proofs.Bytes.{behind, lent}
 use Rattle.reader.specs.declared.Link.{Link}
 use Rattle.reader.specs.Reader.{State, state, listening, afterAll, texts, upToEnd, upToRoom, takenIn, refusalOf, fed, said}
 use Rattle.reader.proofs.Bytes.{afterAll-append, texts-append, keeps-listening}
@@ -40,13 +41,6 @@ filling-start s bytes out₀ e = record {
 }
 
 -- ---- a turn over the rest
-
--- as `&bytes[from..]` lends it
-abbrev pub behind : List ℕ → ℕ → List ℕ
-behind bytes from = take (length bytes - from) (drop from bytes)
-
-pub lent : (bytes : List ℕ) (from : ℕ) → behind bytes from ≡ drop from bytes
-lent bytes from = take-all (length bytes - from) (drop from bytes) (omega (arith, length-drop from bytes))
 
 length-written : (out : List ℕ) (at : ℕ) (text : List ℕ) → at + length text ≤ length out → length (written out at text) ≡ length out
 unfolding written

@@ -10,7 +10,7 @@ use lib.Seq.{take-all, drop-cons, drop-drop, sets-eq}
 use lib.Ieee.{Float}
 use borrow.Rule.Slice.PartMut.{midOf, putMid, mid-len}
 use Rattle.record.specs.Bytes.{little, field, floats}
-use Rattle.record.proofs.Bytes.{length-floats}
+use Rattle.record.proofs.Bytes.{behind, lent, length-floats}
 use Rattle.reader.specs.Reader.{pushed, rowsIn}
 use Rattle.reader.specs.Parts.{wordAll, rowsAll}
 use Rattle.reader.proofs.Pushes.{word-cut, rows-cut, word-of-eight, whole-floats}
@@ -94,13 +94,13 @@ module _ (before word first n at : ℕ) (bytes : List ℕ) (there : first + 8 * 
   middle = take (last - first) (drop first bytes)
 
   abbrev ending : List ℕ
-  ending = take (length bytes - last) (drop last bytes)
+  ending = behind bytes last
 
   middle-is : middle ≡ take (8 * n) (drop first bytes)
   middle-is = ap (λ (k : ℕ). take k (drop first bytes)) (add-sub-cancel-left first (8 * n))
 
   ending-is : ending ≡ drop (8 * n) (drop first bytes)
-  ending-is = take-all (length bytes - last) (drop last bytes) (omega (arith, length-drop last bytes)) ∙ sym (drop-drop (8 * n) first bytes)
+  ending-is = lent bytes last ∙ sym (drop-drop (8 * n) first bytes)
 
   middle-there : 8 * n ≤ length (drop first bytes)
   middle-there = omega (arith, length-drop first bytes)

@@ -1,12 +1,13 @@
--- A field is the field of its first bytes and that of the others, above it; and floats that lie in a row, one more at the end. Assumes nothing.
+-- A field is the field of its first bytes and that of the others, above it; bytes from a place on; and floats that lie in a row, one more at the end.
+-- Assumes nothing.
 use mathlib.Core.Path.{_≡_, refl, ap}
 use mathlib.Core.List.{List, [], _∷_, _++_}
-use Prim.Native.Nat.{ℕ, zero, suc, _+_, _*_, _^_, _<_}
+use Prim.Native.Nat.{ℕ, zero, suc, _+_, _-_, _*_, _^_, _<_}
 use native.Mathlib.Nat.{zero-add, suc-add, mul-assoc, pow-succ'}
 use native.Mathlib.Numerals.{add-one}
 use native.Mathlib.Omega.{arith}
-use lib.ListN.{length, take, drop, getD, set}
-use lib.Seq.{take-nil, drop-nil, drop-drop, take-suc-set}
+use lib.ListN.{length, take, drop, getD, set, length-drop}
+use lib.Seq.{take-nil, take-all, drop-nil, drop-drop, take-suc-set}
 use lib.Ieee.{Float}
 use Rattle.record.specs.Bytes.{little, field, float, floats}
 
@@ -27,6 +28,19 @@ unfolding field little
 field-one at [] = rw (drop-nil {A = ℕ} at)
 field-one zero (b ∷ bytes) = omega arith
 field-one (suc at) (b ∷ bytes) = field-one at bytes
+
+-- ---- bytes from a place on
+
+-- as `&bytes[at..]` lends them
+abbrev pub behind : List ℕ → ℕ → List ℕ
+behind bytes at = take (length bytes - at) (drop at bytes)
+
+pub lent : (bytes : List ℕ) (at : ℕ) → behind bytes at ≡ drop at bytes
+lent bytes at = take-all (length bytes - at) (drop at bytes) (omega (arith, length-drop at bytes))
+
+pub field-behind : (k at : ℕ) (bytes : List ℕ) → field k 0 (behind bytes at) ≡ field k at bytes
+unfolding field
+field-behind k at bytes = ap (λ l. little (take k l)) (lent bytes at)
 
 -- ---- floats
 

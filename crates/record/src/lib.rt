@@ -50,19 +50,22 @@ fn le16(bytes: &[u8], at: usize) -> u64
     low + high * 0x100
 }
 
+// A sum of neighbouring bytes, one after the other, of which the compiler makes one load; of two such, in turn, one of eight bytes.
 pub fn le32(bytes: &[u8], at: usize) -> u64
     requires { ⌜ at + 4 ≤ length (now bytes) ⌝ }
     ensures value { λ r. ⌜ r ≡ field 4 at (now (bytes .entry)) ⌝ }
     ensures small { λ r. ⌜ r < 2 ^ 32 ⌝ }
 {
-    le16(bytes, at) + le16(bytes, at + 2) * 0x1_0000
+    let here = &bytes[at..];
+    le16(here, 0) + wide(here[2]) * 0x1_0000 + wide(here[3]) * 0x100_0000
 }
 
 pub fn le64(bytes: &[u8], at: usize) -> u64
     requires { ⌜ at + 8 ≤ length (now bytes) ⌝ }
     ensures { λ r. ⌜ r ≡ field 8 at (now (bytes .entry)) ⌝ }
 {
-    le32(bytes, at) + le32(bytes, at + 4) * 0x1_0000_0000
+    let here = &bytes[at..];
+    le32(here, 0) + le32(here, 4) * 0x1_0000_0000
 }
 
 fn float_at(head: &[u8; ROWS_AT], at: usize) -> f64

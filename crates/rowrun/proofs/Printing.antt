@@ -8,12 +8,12 @@ use lib.Ieee.{Float}
 use lib.ListN.{length, take, drop, length-drop}
 use lib.Seq.{take-all, take-add}
 use Rattle.text.specs.Sizes.{longestLine}
+use Rattle.record.proofs.Bytes.{behind, lent}
 use Rattle.reader.specs.declared.Link.{Link}
 use Rattle.reader.specs.Reader.{State, state, listening, afterAll, upToRoom, takenIn, fed}
 use Rattle.reader.proofs.Bytes.{afterAll-append, keeps-listening}
 use Rattle.reader.proofs.Taken.{takes-no-more-in, fills-some}
 use Rattle.link.proofs.Entries.{taken-in-room}
-use Rattle.link.proofs.Filling.{behind, lent}
 
 -- of the bytes that a reader `s` is given, `from` are taken and have left `t`
 pub record Printing (s : State) (bytes : List ℕ) (t : State) (from : ℕ) : Type 0 where

@@ -1,15 +1,16 @@
 -- `reader::place` meets its contract. Assumes nothing.
 use mathlib.Core.Path.{_≡_, sym, ap, _∙_}
 use mathlib.Core.List.{List}
-use Prim.Native.Nat.{ℕ, _+_, _-_, _≤_, _<_}
+use Prim.Native.Nat.{ℕ, _+_, _≤_, _<_}
 use native.Mathlib.Omega.{arith}
 use borrow.Author.Needs.{needs}
-use lib.ListN.{length, take, drop, length-drop}
-use lib.Seq.{sets, take-all}
+use lib.ListN.{length, take, drop}
+use lib.Seq.{sets}
 use lib.Ieee.{Float}
 use denote.Ref.{now}
 use Rattle.record.specs.Sizes.{headerBytes, rowsAt}
 use Rattle.record.specs.Record.{size}
+use Rattle.record.proofs.Bytes.{lent}
 use Rattle.reader.specs.declared.Link.{Link}
 use Rattle.reader.specs.Reader.{State, state}
 use Rattle.reader.specs.Parts.{wordOn, rowsOn, headOn, ofHeader, ofFields, ofRows, placedUp}
@@ -17,10 +18,6 @@ use Rattle.reader.proofs.Placed.{onward}
 use Rattle.reader.proofs.Places.{still-lacks, before-rows, no-more-than, all-parts}
 use Rattle.reader.proofs.place.Statement.{statement}
 use Rattle.reader.proofs.place.Tie as tie
-
--- a portion without its first n bytes, as it is lent
-all-behind : (n : ℕ) (bytes : List ℕ) → take (length bytes - n) (drop n bytes) ≡ drop n bytes
-all-behind n bytes = take-all (length bytes - n) (drop n bytes) (simp length-drop (omega arith))
 
 same-state : (link : Link) (n : ℕ) {w w′ : ℕ} {h h′ : List ℕ} {r r′ : List Float} → w ≡ w′ → h ≡ h′ → r ≡ r′
     → state (onward link n w′) h′ r′ ≡ state (onward link n w) h r
@@ -102,7 +99,7 @@ module _ (c : tie.After-take-fields) where
   head₂ = headOn (link .passed + n₁) head₁ (take n₂ (drop n₁ bytes))
 
   fields : (n₂ ≡ ofFields (link .passed + n₁) head₁ (drop n₁ bytes)) × (c .take-fields .last .1 .0 ≡ head₂)
-  fields = rw (← first .take-header .ensures .1, ← all-behind n₁ bytes) (c .take-fields .ensures)
+  fields = rw (← first .take-header .ensures .1, ← lent bytes n₁) (c .take-fields .ensures)
 
   not-past-end : link .passed + (n₁ + n₂) ≤ size head₂
   not-past-end = before-rows link head rows bytes (lack start) n₁ n₂ (first .take-header .ensures .0) (fields .0)
@@ -125,13 +122,13 @@ module _ (c : tie.After-take-rows) where
   n₃ = c .take-rows .result .taken
 
   last-taken : n₃ ≡ ofRows p₂ (head₂ f) bytes₂
-  last-taken = rw (← fields f .1, ← all-behind (n₁ f + n₂ f) (bytes f)) (c .take-rows .ensures .0)
+  last-taken = rw (← fields f .1, ← lent (bytes f) (n₁ f + n₂ f)) (c .take-rows .ensures .0)
 
   word-left : c .take-rows .result .word ≡ wordOn p₂ (link f .word) (head₂ f) (take n₃ bytes₂)
-  word-left = rw (← fields f .1, ← all-behind (n₁ f + n₂ f) (bytes f)) (c .take-rows .ensures .1 .1 .0)
+  word-left = rw (← fields f .1, ← lent (bytes f) (n₁ f + n₂ f)) (c .take-rows .ensures .1 .1 .0)
 
   rows-left : c .take-rows .last .1 .1 .1 .0 ≡ rowsOn p₂ (link f .word) (head₂ f) (rows f) (take n₃ bytes₂)
-  rows-left = rw (← fields f .1, ← all-behind (n₁ f + n₂ f) (bytes f)) (c .take-rows .ensures .1 .1 .1)
+  rows-left = rw (← fields f .1, ← lent (bytes f) (n₁ f + n₂ f)) (c .take-rows .ensures .1 .1 .1)
 
   few : n₁ f + n₂ f + n₃ ≤ length (bytes f)
   few =
