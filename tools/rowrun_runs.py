@@ -54,6 +54,14 @@ class Runs(unittest.TestCase):
         with open(os.devnull, "rb") as unwritable:
             self.assertEqual(run(input=b"", stdout=unwritable)[1], "rowrun: standard output: Bad file descriptor\n")
 
+    def test_output_that_nobody_reads(self):
+        """A signal ends such a program (SIGPIPE), unless it is ignored, as here."""
+        receiver, writing = os.pipe()
+        self.addCleanup(os.close, writing)
+        os.close(receiver)
+        said = run(input=RECORDS, stdout=writing, restore_signals=False)
+        self.assertEqual(said[1], "rowrun: standard output: Broken pipe\n")
+
     def test_a_line_comes_before_more_is_sent(self):
         record = bytes([0, 0, 0, 0, 9, 0])
         with subprocess.Popen(ANSWER.way_to_run(), stdin=subprocess.PIPE, stdout=subprocess.PIPE) as running:

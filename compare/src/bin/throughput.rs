@@ -1,5 +1,5 @@
-//! How many records a second `rowrun` answers from a file, beside how many the library's reader answers that is fed the same bytes
-//! in portions, and how many solves a second the library makes of the same rows.
+//! How many records a second `rowrun` answers from a file, beside another build of it, how many the library's reader answers that is
+//! fed the same bytes in portions, and how many solves a second the library makes of the same rows.
 //!
 //! Records of 30 planner rows, started at the box's edge, not normalised. The least time over some rounds counts. It is told
 //! where the library is linked and the program runs without an emulator: on x86-64, and with `compare/run --native` elsewhere.
@@ -14,8 +14,9 @@ use compare::rng::Rng;
 use compare::solves::planner_rows;
 use compare::task::Task;
 
-const USAGE: &str = "throughput --rowrun PROGRAM [--records N] [--rounds N] [--room FOLDER]
+const USAGE: &str = "throughput --rowrun PROGRAM [--beside PROGRAM] [--records N] [--rounds N] [--room FOLDER]
   --rowrun PROGRAM  the program that answers records
+  --beside PROGRAM  another build of it: both take turns
   --records N       records in the file (400000)
   --rounds N        rounds (10)
   --room FOLDER     where the file of records is written and removed (the folder for temporary files)";
@@ -32,6 +33,7 @@ const PORTIONS: [usize; 3] = [1, 16, 4096];
 
 struct Options {
     rowrun: String,
+    beside: Option<String>,
     records: usize,
     rounds: u64,
     room: String,
@@ -40,6 +42,7 @@ struct Options {
 fn parse_options() -> Result<Options, String> {
     let mut options = Options {
         rowrun: String::new(),
+        beside: None,
         records: 400_000,
         rounds: 10,
         room: env::temp_dir().display().to_string(),
@@ -51,6 +54,7 @@ fn parse_options() -> Result<Options, String> {
         let number = number.map_err(|_| format!("not a number: {value}"));
         match option.as_str() {
             "--rowrun" => options.rowrun = value,
+            "--beside" => options.beside = Some(value),
             "--room" => options.room = value,
             "--records" => options.records = number?.max(1) as usize,
             "--rounds" => options.rounds = number?.max(1),
@@ -169,16 +173,23 @@ fn run(options: &Options) -> Result<(), String> {
     let path = Path::new(&options.room).join(format!("records-{}.bin", std::process::id()));
     let bytes = record_bytes(&tasks, options.records);
     write_records(&path, &bytes)?;
-    let (mut whole, mut solved) = (f64::INFINITY, f64::INFINITY);
+    let programs: Vec<&String> = [&options.rowrun]
+        .into_iter()
+        .chain(&options.beside)
+        .collect();
+    let mut least = vec![f64::INFINITY; programs.len()];
+    let mut solved = f64::INFINITY;
     let mut fed = [f64::INFINITY; PORTIONS.len()];
     let mut outcome = Ok(());
     for _ in 0..options.rounds {
-        match answer(&options.rowrun, &path, options.records) {
-            Ok(seconds) => whole = whole.min(seconds),
-            Err(what) => {
-                outcome = Err(what);
-                break;
+        for (least, program) in least.iter_mut().zip(&programs) {
+            match answer(program, &path, options.records) {
+                Ok(seconds) => *least = least.min(seconds),
+                Err(what) => outcome = Err(what),
             }
+        }
+        if outcome.is_err() {
+            break;
         }
         solved = solved.min(solves::seconds(&tasks, options.records));
         for (least, portion) in fed.iter_mut().zip(PORTIONS) {
@@ -192,8 +203,16 @@ fn run(options: &Options) -> Result<(), String> {
     std::fs::remove_file(&path).map_err(|error| format!("{}: {error}", path.display()))?;
     outcome?;
     let records = options.records as f64;
+    let whole = least[0];
     println!("records of {ROWS} rows: {} from a file", options.records);
     println!("rowrun answers {:.0} a second", records / whole);
+    for (program, seconds) in programs.iter().zip(&least).skip(1) {
+        println!(
+            "{program} answers {:.0} a second, {:.3} of rowrun's time",
+            records / seconds,
+            seconds / whole
+        );
+    }
     for (seconds, portion) in fed.iter().zip(PORTIONS) {
         println!(
             "fed {portion} bytes at a time: {:.0} a second, {:.2} of rowrun's time",

@@ -6,7 +6,7 @@ ghost use mathlib.Core.Bool.{true};
 ghost use Prim.Native.Nat.{_≤_};
 ghost use lib.ListN.{length};
 ghost use Rattle.text.specs.Sizes.{longestLine};
-ghost use Rattle.reader.specs.Reader.{state, listening, afterAll};
+ghost use Rattle.reader.specs.Reader.{state, mostBytes, started, listening, afterAll};
 
 // More than there can be reads before the bytes that count are read, and more than anybody waits for.
 const MOST_TRIES: u64 = 0x8000_0000_0000_0000;
@@ -38,15 +38,15 @@ fn read_some(input: &mut [u8]) -> isize {
     -1
 }
 
-// How many bytes of the text could be written now; 0 where the write fails.
+// How many bytes of the text could be written now; 0 where none could, and where the write fails.
 fn write_some(text: &[u8]) -> usize
     ensures { λ r. ⌜ r ≤ length (now (text .entry)) ⌝ }
 {
     let mut tries = MOST_TRIES;
     while tries > 0 {
-        let put = io::count(libc::write(libc::STDOUT_FILENO, text), text);
-        if put > 0 {
-            return put;
+        let put = libc::write(libc::STDOUT_FILENO, text);
+        if put >= 0 {
+            return io::count(put, text);
         }
         if !is_passing() {
             return 0;
@@ -111,6 +111,13 @@ fn print_portion(
     }
 }
 
+// A link that has seen nothing: all bytes count that may.
+fn opened() -> Link
+    ensures { λ r. ⌜ r ≡ started mostBytes ⌝ }
+{
+    link::start(reader::MOST_BYTES)
+}
+
 // The last lines.
 fn print_end(link: Link, head: &[u8; record::ROWS_AT]) -> bool {
     let mut last = [0u8; link::LINE];
@@ -123,7 +130,7 @@ fn main() {
     let mut rows = [0.0; record::FLOATS];
     let mut input = [0u8; 131072];
     let mut out = [0u8; 65536];
-    let mut link = link::start(reader::MOST_BYTES);
+    let mut link = opened();
     let mut reads = MOST_TRIES;
     while reads > 0 {
         let got = read_some(&mut input);

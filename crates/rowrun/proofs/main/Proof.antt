@@ -17,11 +17,11 @@ Inv-loop head₀ rows₀ input₀ out₀ link₀ reads₀ t10 t11 t12 head rows 
 abbrev μ-loop : tie.MeasureT-loop
 μ-loop head₀ rows₀ input₀ out₀ link₀ reads₀ t10 t11 t12 head rows input out link reads = reads
 
-start-requires : tie.Need-start-requires Inv-loop μ-loop
-start-requires c κs = search needs
+opened-requires : tie.Need-opened-requires Inv-loop μ-loop
+opened-requires c κs = search needs
 
 loop-holds : tie.Need-loop-holds Inv-loop μ-loop
-loop-holds c = (search needs, search needs, rw (c .start .ensures) (started-listens _ _))
+loop-holds c = (search needs, search needs, rw (c .opened .ensures) (started-listens _ _))
 
 slice-aggregate-read-some : tie.Need-slice-aggregate-read-some Inv-loop μ-loop
 slice-aggregate-read-some c = search needs
@@ -97,7 +97,7 @@ main-spec =
     (tie.spec
     Inv-loop
     μ-loop
-    start-requires
+    opened-requires
     loop-holds
     slice-aggregate-read-some
     read-some-requires

@@ -1,5 +1,4 @@
 -- `rowrun::write_some` is safe and ends, and writes no more than there is.
-
 use borrow.Author.Needs.{needs}
 use Rattle.rowrun.proofs.write_some.Statement.{statement}
 use Rattle.rowrun.proofs.write_some.Tie as tie
