@@ -10,7 +10,6 @@ REFUSALS = {
     1: "the floats that were lent do not come out even",
     2: "the record has more than 2,048 rows",
     3: "the answer takes more readings than the allowance",
-    4: "all seven solves passed without an answer",
     5: "the determinant is not finite or within its error bound",
     6: "recovery found no point",
     7: "the prefix is longer than the rows",

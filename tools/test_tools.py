@@ -806,8 +806,8 @@ class Words(unittest.TestCase):
                 self.assertEqual(float(answers.exact(number)), number)
 
     def test_every_refusal_has_its_own_meaning(self):
-        self.assertEqual(sorted(answers.REFUSALS), list(range(1, 11)))
-        self.assertEqual(len(set(answers.REFUSALS.values())), 10)
+        self.assertEqual(sorted(answers.REFUSALS), [1, 2, 3, 5, 6, 7, 8, 9, 10])  # 4 is not used again
+        self.assertEqual(len(set(answers.REFUSALS.values())), 9)
 
     def test_whole_outputs(self):
         self.assertEqual(answers.read_all(b"end 0\n", 0), [])

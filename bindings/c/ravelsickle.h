@@ -45,8 +45,6 @@ enum ravelsickle_refusal {
     RAVELSICKLE_TOO_MANY = 2,
     /* The solve needs more readings than its allowance. See ravelsickle_solve for what it leaves. */
     RAVELSICKLE_STOPPED = 3,
-    /* Never given: it is proved that a solve returns after its seventh box at the latest. */
-    RAVELSICKLE_NO_RETURN = 4,
     /* The determinant of two equations is not finite, or within its error bound. */
     RAVELSICKLE_SINGULAR = 5,
     /* Recovery found no point. */

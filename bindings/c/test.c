@@ -74,6 +74,30 @@ static bool has_rows(struct ravelsickle_answer got, int first, int second) {
     return are_rows(got.has_first, got.first, got.has_second, got.second, first, second);
 }
 
+/* Whether the header has a refusal of this number. There is no default, so that a compiler warns where one is left out. */
+static bool has_refusal(enum ravelsickle_refusal number) {
+    switch (number) {
+    case RAVELSICKLE_DONE:
+        return false;
+    case RAVELSICKLE_NOT_WHOLE:
+    case RAVELSICKLE_TOO_MANY:
+    case RAVELSICKLE_STOPPED:
+    case RAVELSICKLE_SINGULAR:
+    case RAVELSICKLE_NOT_RECOVERED:
+    case RAVELSICKLE_PREFIX_TOO_LONG:
+    case RAVELSICKLE_NO_SUCH_MODE:
+    case RAVELSICKLE_ENDED:
+        return true;
+    }
+    return false;
+}
+
+/* The number 4 was that of a refusal which could not come, and is not used again. */
+static void test_no_refusal_is_4(void) {
+    CHECK(has_refusal((enum ravelsickle_refusal)3) && has_refusal((enum ravelsickle_refusal)5));
+    CHECK(!has_refusal((enum ravelsickle_refusal)4));
+}
+
 /* The original's own entry, which looks at no allowance, on a copy of the rows: the same answer, and the same rows left. */
 static void check_original(const double *rows, size_t n, struct ravelsickle_task task, struct ravelsickle_answer expected,
                            const double *left) {
@@ -602,6 +626,7 @@ int main(void) {
     size_t too_many = RAVELSICKLE_ROW_LIMIT + 1;
     double *many = rows_past_the_limit(too_many);
     double *same_many = rows_past_the_limit(too_many);
+    test_no_refusal_is_4();
     test_root();
     test_fused();
     test_normalize();

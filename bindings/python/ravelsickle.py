@@ -155,7 +155,6 @@ _REASONS = {
     1: "the floats lent are no whole rows or pairs",
     2: f"more than {ROW_LIMIT} rows or pairs",
     3: "the solve needs more readings than its allowance",
-    4: "no return after the last box, which is proved never to come",
     5: "the two equations have no reliable crossing",
     6: "recovery found no point",
     7: "the prefix is longer than the rows",
@@ -494,7 +493,7 @@ def _answer(kind: int, x: float, y: float) -> Answer:
 
 def _check(number: int, count: Optional[int] = None) -> None:
     if number != 0:
-        raise Refusal(number, count if number in (3, 4) else None)
+        raise Refusal(number, count if number == 3 else None)
 
 
 # ---- The entries ----

@@ -17,11 +17,6 @@ pub enum Refusal {
         /// The readings taken, which is the allowance.
         count: u64,
     },
-    /// 4: never given. It is proved that a solve returns after its seventh box at the latest.
-    NoReturn {
-        /// The readings taken.
-        count: u64,
-    },
     /// 5: the determinant of two equations is not finite, or within its error bound.
     Singular,
     /// 6: recovery found no point. The collector is unchanged.
@@ -48,7 +43,6 @@ impl Refusal {
             Refusal::NotWhole => 1,
             Refusal::TooMany => 2,
             Refusal::Stopped { .. } => 3,
-            Refusal::NoReturn { .. } => 4,
             Refusal::Singular => 5,
             Refusal::NotRecovered => 6,
             Refusal::PrefixTooLong => 7,
@@ -64,7 +58,6 @@ impl Refusal {
             1 => Refusal::NotWhole,
             2 => Refusal::TooMany,
             3 => Refusal::Stopped { count },
-            4 => Refusal::NoReturn { count },
             5 => Refusal::Singular,
             6 => Refusal::NotRecovered,
             7 => Refusal::PrefixTooLong,
@@ -91,7 +84,6 @@ impl fmt::Display for Refusal {
             Refusal::NotWhole => write!(f, "the floats lent are no whole rows"),
             Refusal::TooMany => write!(f, "more than {} rows or pairs", crate::ROW_LIMIT),
             Refusal::Stopped { count } => write!(f, "not finished within {count} readings"),
-            Refusal::NoReturn { count } => write!(f, "no return after {count} readings"),
             Refusal::Singular => write!(f, "the two equations have no reliable crossing"),
             Refusal::NotRecovered => write!(f, "recovery found no point"),
             Refusal::PrefixTooLong => write!(f, "the prefix is longer than the rows"),
@@ -115,10 +107,15 @@ mod tests {
             assert_eq!(Refusal::check(number, 9).unwrap_err().number(), number);
         }
         assert_eq!(Refusal::check(3, 9), Err(Refusal::Stopped { count: 9 }));
-        assert_eq!(Refusal::check(4, 9), Err(Refusal::NoReturn { count: 9 }));
         assert_eq!(Refusal::check(10, 9), Err(Refusal::NoSuchMode));
         assert_eq!(Refusal::check(12, 9), Err(Refusal::Ended));
         assert_eq!(Refusal::check(8, 9), Err(Refusal::Unknown(8)));
+    }
+
+    /// The number 4 was that of a refusal which could not come, and is not used again.
+    #[test]
+    fn no_refusal_has_the_number_4() {
+        assert_eq!(Refusal::check(4, 9), Err(Refusal::Unknown(4)));
     }
 
     #[test]

@@ -75,7 +75,7 @@ unsolved number count = withRows (refused number) count noRows
 -- refusal 3 has its count; one that comes before a row is read has 0
 unfoldable pub solved : Outcome → Solved
 solved (outcome-is.Answered a act n) = withRows (answered a) n act
-solved (outcome-is.Stopped number n) = unsolved number n
+solved (outcome-is.Stopped n) = unsolved 3 n
 solved (outcome-is.Refused number) = unsolved number 0
 
 -- what the source's own entry answers

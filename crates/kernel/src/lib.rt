@@ -277,7 +277,7 @@ fn solved_of(got: Outcome) -> Solved
 {
     match got {
         Outcome::Answered(a, act, n) => with_rows(answered(a), n, act),
-        Outcome::Stopped(number, n) => unsolved(number, n),
+        Outcome::Stopped(n) => unsolved(3, n),
         Outcome::Refused(number) => unsolved(number, 0),
     }
 }

@@ -162,9 +162,8 @@ fn print_outcome(got: Outcome) {
             print_active(act);
             print_number(n);
         }
-        Outcome::Stopped(k, n) => {
-            print(b" refused");
-            print_number(k);
+        Outcome::Stopped(n) => {
+            print(b" refused 3");
             print_number(n);
         }
         Outcome::Refused(k) => {
@@ -354,17 +353,17 @@ fn same_outcome(here: Outcome, there: Outcome) -> bool {
             Outcome::Answered(b, other, m) => {
                 same_answer(a, b) && same_active(act, other) && n == m
             }
-            Outcome::Stopped(_, _) => false,
+            Outcome::Stopped(_) => false,
             Outcome::Refused(_) => false,
         },
-        Outcome::Stopped(k, n) => match there {
+        Outcome::Stopped(n) => match there {
             Outcome::Answered(_, _, _) => false,
-            Outcome::Stopped(j, m) => k == j && n == m,
+            Outcome::Stopped(m) => n == m,
             Outcome::Refused(_) => false,
         },
         Outcome::Refused(k) => match there {
             Outcome::Answered(_, _, _) => false,
-            Outcome::Stopped(_, _) => false,
+            Outcome::Stopped(_) => false,
             Outcome::Refused(j) => k == j,
         },
     }

@@ -70,14 +70,14 @@ module _ (T : Task) (A : ℕ) (rows : List Row) where
 
 -- ---- the collector
 
--- it holds the active rows of an answer, is cleared by refusals 3 and 4, and is as it was after 1 and 2
+-- it holds the active rows of an answer, is cleared by refusal 3, and is as it was after 1 and 2
 pub kept-answered : (act found : Active) (a : Answer) (n : ℕ) → kept act (Answered a found n) ≡ found
 unfolding kept held collected collector
 kept-answered act found a n = refl
 
-pub kept-stopped : (act : Active) (k n : ℕ) → kept act (Stopped k n) ≡ noRows
+pub kept-stopped : (act : Active) (n : ℕ) → kept act (Stopped n) ≡ noRows
 unfolding kept held collected collector
-kept-stopped act k n = refl
+kept-stopped act n = refl
 
 pub kept-refused : (act : Active) (k : ℕ) → kept act (Refused k) ≡ act
 unfolding kept held collector

@@ -76,13 +76,13 @@ fn kept(outcome: Outcome, act: Active) -> Active
     let none = line::no_rows();
     match outcome {
         Outcome::Answered(_, found, _) => found,
-        Outcome::Stopped(_, _) => none,
+        Outcome::Stopped(_) => none,
         Outcome::Refused(_) => act,
     }
 }
 
-// Public: the solve within an allowance, with the collector lent to it. It is left with the active rows; cleared by refusals
-// 3 and 4; and as it was by 1 and 2.
+// Public: the solve within an allowance, with the collector lent to it. It is left with the active rows; cleared by refusal 3;
+// and as it was by 1 and 2.
 pub fn solve_collecting(rows: &mut [f64], task: Task, allowance: u64, c: &mut Active) -> Outcome
     ensures answer { λ r. ⌜ r ≡ solve task allowance (now (rows .entry)) .outcome ⌝ }
     ensures lent { λ _. ⌜ now (rows .exit) ≡ solve task allowance (now (rows .entry)) .rows ⌝ }

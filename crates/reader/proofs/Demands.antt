@@ -1,10 +1,10 @@
 -- What the request asks of a reader that is fed portions, in the terms of the entries' contracts: `taken`, `takenIn`, `fed`, `said`, `refusalOf`, `endText`
 -- and `ended`, for a link, the bytes and the floats lent with it, and a portion.
 use mathlib.Core.Path.{_≡_, refl, _∙_}
-use mathlib.Core.Logic.{_≢_, _⊎_, inl, inr}
+use mathlib.Core.Logic.{_≢_, _⊎_, inl, inr, ⊎-elim}
 use mathlib.Core.Bool.{true, false}
 use mathlib.Core.List.{List, [], _∷_, _++_}
-use Prim.Native.Nat.{ℕ, _+_, _≤_}
+use Prim.Native.Nat.{ℕ, _+_, _≤_, _<_}
 use native.Mathlib.Omega.{arith}
 use lib.Dec.{eqb}
 use lib.ListN.{length, take}
@@ -73,20 +73,25 @@ module _ (link : Link) (head : List ℕ) (rows : List Float) where
   unfolding said texts
   none-prints n = rw (take-nil {A = ℕ} n)
 
--- ---- 3. refusal 8 comes only when the end is told
+-- ---- 3. a record is answered, or refused by 3 at most, by 9 or by 10; refusal 8 comes only when the end is told
 
-no-refusal-8 : (kind length byte : ℕ) → refusal kind length byte ≢ 8
+unsolved-by : (P : ℕ → Type 0) → P 0 → P 2 → P 9 → P 10 → (kind length byte : ℕ) → P (refusal kind length byte)
 unfolding refusal
-no-refusal-8 kind length byte =
-    let no : (k : ℕ) → Type 0 = λ k. k ≢ 8 in
-    either no _ (λ e. omega arith) (either no _ (λ e. omega arith) (either no _ (λ e. omega arith) (λ e. omega arith)))
+unsolved-by P none two nine ten kind length byte = either P _ nine (either P _ ten (either P _ two none))
 
-pub never-eight : (head : List ℕ) (rows : List Float) → solving.number (answered head rows .outcome) ≢ 8
-unfolding answered solving.number
-never-eight head rows =
-    either (λ (e : solving.Ended (List Float)). solving.number (e .outcome) ≢ 8) (eqb (refusal (kind head) (bodyLength head) (normalizeByte head)) 0)
-    (λ e. omega (arith, solve-no-other (task head) (take (floatCount head) rows) (allowance head)))
-    (no-refusal-8 (kind head) (bodyLength head) (normalizeByte head))
+module _ (head : List ℕ) (rows : List Float) where
+  abbrev Numbered : ℕ → Type 0
+  Numbered k = (k < 4) ⊎ (k ≡ 9) ⊎ (k ≡ 10)
+
+  pub no-other : Numbered (solving.number (answered head rows .outcome))
+  unfolding answered solving.number
+  no-other =
+      either (λ (e : solving.Ended (List Float)). Numbered (solving.number (e .outcome))) (eqb (refusal (kind head) (bodyLength head) (normalizeByte head)) 0)
+      (inl (solve-no-other (task head) (take (floatCount head) rows) (allowance head)))
+      (unsolved-by Numbered (inl (omega arith)) (inl (omega arith)) (inr (inl refl)) (inr (inr refl)) (kind head) (bodyLength head) (normalizeByte head))
+
+  pub never-eight : solving.number (answered head rows .outcome) ≢ 8
+  never-eight e = ⊎-elim (λ few. omega arith) (⊎-elim (λ nine. omega arith) (λ ten. omega arith)) no-other
 
 -- what a byte prints is nothing, or the line of an outcome that is not refusal 8
 module _ (s : State) (b : ℕ) where

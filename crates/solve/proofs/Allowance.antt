@@ -1,10 +1,10 @@
 -- The laws of the allowance: a solve that keeps within it is the solve without one, and refusal 3 is given exactly above it. First over
 -- rows, then for the entries over flat floats.
 use mathlib.Core.Path.{_≡_, refl, sym, ap, _∙_}
-use mathlib.Core.Logic.{_↔_, _≢_}
-use mathlib.Core.List.{List, [], _∷_}
+use mathlib.Core.Logic.{_⊎_, inl, inr, ⊎-elim, _↔_, _≢_}
+use mathlib.Core.List.{List}
 use Prim.Native.Nat.{ℕ, _≤_, _<_}
-use native.Mathlib.Decide.{ℕ-discrete}
+use native.Mathlib.Decide.{ℕ-discrete, decLe}
 use native.Mathlib.Nat.{lt-of-not-le}
 use native.Mathlib.Omega.{arith}
 use borrow.Author.Tests.{lt-ltb, le-ltb, eq-eqb, ne-eqb}
@@ -16,30 +16,23 @@ use Rattle.line.specs.declared.Active.{Active}
 use Rattle.solve.specs.declared.Task.{Task}
 use Rattle.solve.specs.declared.Answer.{Answer}
 use Rattle.solve.specs.declared.Outcome.the-variants.{Answered, Stopped, Refused}
-use Rattle.solve.specs.Once.{Once}
-use Rattle.solve.specs.Solve.{solves, allSolves, count, rowsWithin, answer, activeRows, Ended, answered, finished, allowed}
+use Rattle.solve.specs.Solve.{allSolves, lastOf, count, rowsWithin, answer, activeRows, Ended, answered, finished, allowed}
 use Rattle.solve.specs.Solve.{refusalOf, taken, solve, lp2dIncreMaxY, number}
 use Rattle.solve.proofs.Refusals.{no-other}
 
 -- ---- over rows
 
--- the last of some solves answers
-last-answers : (n : ℕ) (rows : List Row) (o : Once) (os : List Once) → (a : Answer) × (act : Active) × (answered n rows (o ∷ os) .outcome ≡ Answered a act n)
-unfolding answered
-last-answers n rows o [] = (answer (o .run .value), activeRows (o .run .value), refl)
-last-answers n rows o (p ∷ os) = last-answers n (o .rows .value) p os
-
 module _ (T : Task) (rows : List Row) where
   -- without an allowance there is always an answer, with the count of all the solves
   finished-answers : (a : Answer) × (act : Active) × (finished T rows .outcome ≡ Answered a act (count (allSolves T rows)))
-  unfolding finished allSolves solves
-  finished-answers = last-answers (count (allSolves T rows)) rows _ _
+  unfolding finished answered
+  finished-answers = let found = lastOf (allSolves T rows) .run .value in (answer found, activeRows found, refl)
 
   pub finishes : (A : ℕ) → count (allSolves T rows) ≤ A → allowed T A rows ≡ finished T rows
   unfolding allowed if_then_else_
   finishes A within = rw (le-ltb A (count (allSolves T rows)) within)
 
-  pub stops : (A : ℕ) → A < count (allSolves T rows) → allowed T A rows ≡ record { outcome = Stopped 3 A; rows = rowsWithin A rows (allSolves T rows) }
+  pub stops : (A : ℕ) → A < count (allSolves T rows) → allowed T A rows ≡ record { outcome = Stopped A; rows = rowsWithin A rows (allSolves T rows) }
   unfolding allowed if_then_else_
   stops A above = rw (lt-ltb A (count (allSolves T rows)) above)
 
@@ -51,12 +44,9 @@ module _ (T : Task) (rows : List Row) where
   unfolding number
   above-where-refused A refused = lt-of-not-le (λ within. refused (rw (finishes A within, finished-answers .2)))
 
-  -- refusal 3 is given exactly above the allowance, and refusal 4 never
+  -- refusal 3 is given exactly above the allowance
   three-exactly : (A : ℕ) → number (allowed T A rows .outcome) ≡ 3 ↔ A < count (allSolves T rows)
   three-exactly A = (λ three. above-where-refused A (omega arith), number-above A)
-
-  never-four : (A : ℕ) → number (allowed T A rows .outcome) ≢ 4
-  never-four A four = omega (arith, number-above A (above-where-refused A (omega arith)))
 
 -- ---- over flat floats
 
@@ -93,7 +83,7 @@ module _ (T : Task) (flat : List Float) where
   solve-finishes A within = taken-alike T (allowed T A) flat (finished T) (finishes T (rowsOf flat) A within)
 
   pub solve-stops : (A : ℕ) → refusalOf T flat ≡ 0 → A < count (allSolves T (rowsOf flat))
-      → solve T A flat ≡ record { outcome = Stopped 3 A; rows = flatOf (rowsWithin A (rowsOf flat) (allSolves T (rowsOf flat))) }
+      → solve T A flat ≡ record { outcome = Stopped A; rows = flatOf (rowsWithin A (rowsOf flat) (allSolves T (rowsOf flat))) }
   unfolding solve
   solve-stops A fits above = takes T (allowed T A) flat fits ∙ rw (stops T (rowsOf flat) A above)
 
@@ -130,22 +120,33 @@ module _ (T : Task) (flat : List Float) where
     λ both. ap number (outcome-where-taken A (both .0)) ∙ three-exactly T (rowsOf flat) A .1 (both .1),
   )
 
-  pub solve-never-four : (A : ℕ) → number (solve T A flat .outcome) ≢ 4
-  solve-never-four A four =
-      let fits = taken-where A (omega arith) (omega arith) in
-      never-four T (rowsOf flat) A (sym (ap number (outcome-where-taken A fits)) ∙ four)
-
   -- a solve answers, or gives refusal 1, 2 or 3
-  pub solve-no-other : (A : ℕ) → number (solve T A flat .outcome) < 4
-  solve-no-other A =
+  pub solve-answers-or-refuses : (A : ℕ)
+      → ((a : Answer) × (act : Active) × (solve T A flat .outcome ≡ Answered a act (count (allSolves T (rowsOf flat)))))
+      ⊎ ((0 < number (solve T A flat .outcome)) × (number (solve T A flat .outcome) < 4))
+  solve-answers-or-refuses A =
       elim (ℕ-discrete (refusalOf T flat) 0) [
         | yes fits ↦
-            let same = ap number (outcome-where-taken A fits) in
-            elim (ℕ-discrete (number (allowed T A (rowsOf flat) .outcome)) 0) [
-              | yes answers ↦ omega arith
-              | no stopped ↦ omega (arith, number-above T (rowsOf flat) A (above-where-refused T (rowsOf flat) A stopped))
+            elim (decLe (count (allSolves T (rowsOf flat))) A) [
+              | yes within ↦ inl (rw (solve-finishes A within) (lp2dIncreMaxY-answers fits))
+              | no above ↦ let three = solve-three-exactly A .1 (fits, omega arith) in inr (omega arith, omega arith)
             ]
-        | no refused ↦ omega (arith, number-where-refused A refused, no-other T flat)
+        | no refused ↦
+            let number-is = number-where-refused A refused in
+            inr (omega arith, omega (arith, no-other T flat))
+      ]
+
+  -- and no other number
+  pub solve-no-other : (A : ℕ) → number (solve T A flat .outcome) < 4
+  unfolding number
+  solve-no-other A = ⊎-elim (λ answers. rw (answers .2) (omega arith)) (λ refuses. refuses .1) (solve-answers-or-refuses A)
+
+  pub lp2dIncreMaxY-no-other : number (lp2dIncreMaxY T flat .outcome) < 3
+  unfolding number
+  lp2dIncreMaxY-no-other =
+      elim (ℕ-discrete (refusalOf T flat) 0) [
+        | yes fits ↦ rw (lp2dIncreMaxY-answers fits .2) (omega arith)
+        | no refused ↦ rw (lp2dIncreMaxY-refuses refused) (no-other T flat)
       ]
 
   -- an answer keeps within the allowance

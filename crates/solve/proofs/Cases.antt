@@ -23,7 +23,7 @@ use Rattle.solve.specs.declared.Normalize.the-variants.{Source}
 use Rattle.solve.specs.declared.Task.{Task}
 use Rattle.solve.specs.declared.Outcome.the-variants.{Answered, Stopped}
 use Rattle.solve.specs.Once.{prepared, begun, passes, lone, once, preparing, paying, leaves}
-use Rattle.solve.specs.Solve.{solves, allSolves, count, rowsWithin, answer, activeRows, answered, finished, allowed}
+use Rattle.solve.specs.Solve.{solves, allSolves, lastOf, count, rowsWithin, answer, activeRows, answered, finished, allowed}
 use Rattle.solve.proofs.Allowance.{finishes, stops}
 
 -- rows are normalised where a reading is left for each, and else none is written
@@ -65,11 +65,11 @@ module _ (T : Task) (R : List Row) (bound : Float) (left : ℕ) where
 
 module _ (T : Task) (A : ℕ) where
   pub none-answered : (rows : List Row) → length rows ≡ 0 → allowed T A rows ≡ record { outcome = Answered (answer Failed) (activeRows Failed) 0; rows = rows }
-  unfolding finished answered allSolves solves once count pure if_then_else_
+  unfolding finished answered allSolves solves lastOf once count pure if_then_else_
   none-answered [] none = finishes T [] A (omega arith)
   none-answered (r ∷ rows) none = absurd (omega arith)
 
-  pub one-stopped : (rows : List Row) → length rows ≡ 1 → A ≡ 0 → allowed T A rows ≡ record { outcome = Stopped 3 0; rows = rows }
+  pub one-stopped : (rows : List Row) → length rows ≡ 1 → A ≡ 0 → allowed T A rows ≡ record { outcome = Stopped 0; rows = rows }
   unfolding rowsWithin allSolves solves once count pure read _>>_ if_then_else_
   one-stopped [] one spent = absurd (omega arith)
   one-stopped (r ∷ []) one spent = stops T (r ∷ []) A (omega arith) ∙ rw spent
@@ -77,7 +77,7 @@ module _ (T : Task) (A : ℕ) where
 
   pub one-answered : (rows : List Row) → length rows ≡ 1 → 0 < A
       → let found = lone (rowAt rows 0) in allowed T A rows ≡ record { outcome = Answered (answer found) (activeRows found) 1; rows = rows }
-  unfolding finished answered allSolves solves once count rowAt pure read _>>_ if_then_else_
+  unfolding finished answered allSolves solves lastOf once count rowAt pure read _>>_ if_then_else_
   one-answered [] one some = absurd (omega arith)
   one-answered (r ∷ []) one some = finishes T (r ∷ []) A (omega arith)
   one-answered (r ∷ s ∷ rows) one some = absurd (omega arith)

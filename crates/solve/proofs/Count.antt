@@ -1,6 +1,5 @@
 -- How many readings a solve takes at most, from one solve up to all seven solves, and with no row or one exactly. Assumes nothing.
 use mathlib.Core.Path.{_≡_, refl}
-use mathlib.Core.Bool.{Bool, true, false}
 use mathlib.Core.List.{List, [], _∷_}
 use Prim.Native.Nat.{ℕ, zero, suc, _+_, _*_, _^_, _≤_, _<_}
 use native.Mathlib.Nat.{one-mul, pow-zero, pow-suc, pow-le-pow-left}
@@ -9,6 +8,7 @@ use lib.ListN.{length, drop, length-drop}
 use lib.Ieee.{Float}
 use Rattle.float.specs.Operators.{if_then_else_, _⊗_}
 use Rattle.readings.specs.Readings.{pure, read, _>>_}
+use Rattle.readings.proofs.Gives.{either}
 use Rattle.readings.proofs.Bounds.{_atMost_, wider, pure-takes, read-takes}
 use Rattle.rows.specs.Constants.{lpBoxGrowth, mostRows}
 use Rattle.rows.specs.declared.Row.{Row}
@@ -16,8 +16,8 @@ use Rattle.step.proofs.Count.{bind?-takes}
 use Rattle.solve.specs.declared.Normalize.{Normalize}
 use Rattle.solve.specs.declared.Normalize.the-variants.{Off, Source}
 use Rattle.solve.specs.declared.Task.{Task}
-use Rattle.solve.specs.Once.{Once, prepared, widened, passes, many, once}
-use Rattle.solve.specs.Solve.{solves, allSolves, count}
+use Rattle.solve.specs.Once.{prepared, widened, passes, many, once}
+use Rattle.solve.specs.Solve.{Solves, solves, allSolves, count}
 use Rattle.passes.proofs.Count.{fromRow, before, after-skip, forward-takes, deferred-takes}
 use Rattle.solve.proofs.Lengths.{length-prepared, length-once}
 
@@ -66,25 +66,21 @@ module _ (T : Task) where
 
 -- ---- all solves
 
-count-if : (b : Bool) (os : List Once) → count (if b then os else []) ≤ count os
-unfolding if_then_else_ count
-count-if true os = omega arith
-count-if false os = omega arith
-
 module _ (T : Task) where
-  solves-count : (k : ℕ) (rows : List Row) (bound : Float) → 6 * count (solves k T rows bound) ≤ k * ofSolve (length rows)
+  solves-count : (k : ℕ) (rows : List Row) (bound : Float) → 6 * count (solves k T rows bound) ≤ suc k * ofSolve (length rows)
   unfolding solves count
-  solves-count zero rows bound = omega arith
+  solves-count zero rows bound = omega (arith, once-count T rows bound)
   solves-count (suc k) rows bound =
       let first = once T rows bound in
-      let wider-box = bound ⊗ lpBoxGrowth in
-      let more = rw length-once at (solves-count k (first .rows .value) wider-box) in
-      omega (arith, once-count T rows bound, count-if (first .saturated) (solves k T (first .rows .value) wider-box))
+      let more = rw length-once at (solves-count k (first .rows .value) (bound ⊗ lpBoxGrowth)) in
+      either (λ (os : Solves). 6 * count os ≤ suc (suc k) * ofSolve (length rows)) _
+      (omega (arith, once-count T rows bound))
+      (omega (arith, once-count T rows bound))
 
   -- seven solves of 4 n^3 / 3 + 23 n^2 / 2 + 121 n / 6 + 4 at most
   pub count-sharp : (rows : List Row) → let n = length rows in 6 * count (allSolves T rows) ≤ 7 * (8 * n ^ 3 + 69 * n ^ 2 + 121 * n + 24)
   unfolding allSolves ofSolve
-  count-sharp rows = solves-count 7 rows _
+  count-sharp rows = solves-count 6 rows _
 
   -- the bound of RULES 1.3
   pub count-bound : (rows : List Row) → let n = length rows in count (allSolves T rows) ≤ 28 * n ^ 3 + 133 * n ^ 2 + 70 * n + 28

@@ -25,10 +25,11 @@ use Rattle.solve.specs.declared.Task.{Task}
 use Rattle.solve.specs.declared.Answer.{Answer}
 use Rattle.solve.specs.declared.Answer.the-variants.{Point, Level, Across, Nothing}
 use Rattle.solve.specs.declared.Outcome.the-variants.{Answered, Stopped, Refused}
-use Rattle.solve.specs.Once.{Once}
-use Rattle.solve.specs.Solve.{allSolves, count, rowsWithin, answer, Ended, refusalOf, solve, lp2dIncreMaxY, number, values}
+use Rattle.solve.specs.Solve.{Solves, allSolves, lastOf, count, rowsWithin, answer, Ended, refusalOf, solve, lp2dIncreMaxY, number, values}
 use Rattle.solve.proofs.Refusals as refusals
 use Rattle.solve.proofs.Allowance as allowance
+use Rattle.solve.proofs.Growing.{rounds}
+use Rattle.solve.proofs.Returns as returns
 use Rattle.solve.proofs.Count as counting
 use Rattle.solve.proofs.Constants.{Constants, constants-hold}
 use Rattle.solve.proofs.Examples.{All, examples, examples-hold}
@@ -41,7 +42,7 @@ module _ (T : Task) (flat : List Float) where
   abbrev lent : ℕ
   lent = length flat / 3
 
-  abbrev solves : List Once
+  abbrev solves : Solves
   solves = allSolves T (rowsOf flat)
 
   abbrev taken : ℕ
@@ -77,9 +78,28 @@ module _ (T : Task) (flat : List Float) where
   pub answers : refusalOf T flat ≡ 0 → (a : Answer) × (act : Active) × (lp2dIncreMaxY T flat .outcome ≡ Answered a act taken)
   answers = allowance.lp2dIncreMaxY-answers T flat
 
-  -- refusal 4 is never given
-  pub never-four : (A : ℕ) → number (solve T A flat .outcome) ≢ 4
-  never-four = allowance.solve-never-four T flat
+  -- so a solve answers, with the count of all its solves, or gives 1, 2 or 3, and no other number; and that entry 1 or 2
+  pub answers-or-refuses : (A : ℕ)
+      → ((a : Answer) × (act : Active) × (solve T A flat .outcome ≡ Answered a act taken))
+      ⊎ ((0 < number (solve T A flat .outcome)) × (number (solve T A flat .outcome) < 4))
+  answers-or-refuses = allowance.solve-answers-or-refuses T flat
+
+  pub no-other : (A : ℕ) → number (solve T A flat .outcome) < 4
+  no-other = allowance.solve-no-other T flat
+
+  pub no-other-alike : number (lp2dIncreMaxY T flat .outcome) < 3
+  no-other-alike = allowance.lp2dIncreMaxY-no-other T flat
+
+  -- "After the seventh solve there is always a return": the source's loop never comes to its `unreachable!()`, and returns what the last solve found. They
+  -- are seven at most, and the last does not sit on its box, or is the seventh, whatever that one finds
+  pub always-returns : returns.loop T (rowsOf flat) ≡ returns.returned (lastOf solves)
+  always-returns = returns.always-returns T (rowsOf flat)
+
+  pub seven-at-most : rounds solves ≤ 7
+  seven-at-most = returns.seven-at-most T (rowsOf flat)
+
+  pub off-or-seventh : (lastOf solves .saturated ≡ false) ⊎ (rounds solves ≡ 7)
+  off-or-seventh = returns.off-or-seventh T (rowsOf flat)
 
   module _ (A : ℕ) {a : Answer} {act : Active} {n : ℕ} (e : solve T A flat .outcome ≡ Answered a act n) where
     -- "'No row' never reads as a row": a row that is named is one of those lent
@@ -122,7 +142,7 @@ module _ (T : Task) (flat : List Float) where
   stops-exactly = allowance.solve-three-exactly T flat
 
   pub stops : (A : ℕ) → refusalOf T flat ≡ 0 → A < taken
-      → solve T A flat ≡ record { outcome = Stopped 3 A; rows = flatOf (rowsWithin A (rowsOf flat) solves) }
+      → solve T A flat ≡ record { outcome = Stopped A; rows = flatOf (rowsWithin A (rowsOf flat) solves) }
   stops = allowance.solve-stops T flat
 
   pub last-normalised : (A : ℕ) → refusalOf T flat ≡ 0 → A < taken

@@ -36,7 +36,7 @@ use Rattle.solve.specs.declared.Answer.the-variants.{Point, Level, Nothi
 use Rattle.solve.specs.declared.Outcome.the-variants.{Answered, Stopped}
 use Rattle.passes.specs.Passes.{violated, frame, secondTry, repair, afterTrial, pivot, forward, excess, worst, none, deferred}
 use Rattle.solve.specs.Once.{prepared, widened, begun, passes, saturated, onBox, lone, many, once}
-use Rattle.solve.specs.Solve.{solves, allSolves, count, rowsWithin, answer, activeRows, answered, finished, allowed, refusalOf, taken, solve}
+use Rattle.solve.specs.Solve.{solves, allSolves, lastOf, count, rowsWithin, answer, activeRows, answered, finished, allowed, refusalOf, taken, solve}
 
 -- ---- how a line is written
 
@@ -67,8 +67,8 @@ from y = task epsZero (num 10) y Off
 pub data Example : Type 0 where
   -- task, allowance, rows: answer, active rows, count; and the rows are left as they were
   solving : Task → ℕ → List Row → Answer → Slot → Slot → ℕ → Example
-  -- task, allowance, rows: refusal; and the rows are left as they were
-  stopping : Task → ℕ → List Row → ℕ → Example
+  -- task, allowance, rows: refusal 3 with the allowance as its count; and the rows are left as they were
+  stopping : Task → ℕ → List Row → Example
   normalizing : List Row → List Row → Example
   crossing-of : Row → Row → Crossing → Example
   bounding : Bool → List Float → Bounds → Example
@@ -77,7 +77,7 @@ pub data Example : Type 0 where
 
 abbrev pub Holds-true : Example → Type 0
 Holds-true (solving T n rows a i j k) = solve T n (flatOf rows) ≡ record { outcome = Answered a (record { first = i; second = j }) k; rows = flatOf rows }
-Holds-true (stopping T n rows k) = solve T n (flatOf rows) ≡ record { outcome = Stopped k n; rows = flatOf rows }
+Holds-true (stopping T n rows) = solve T n (flatOf rows) ≡ record { outcome = Stopped n; rows = flatOf rows }
 Holds-true (normalizing rows after) = normalized rows ≡ after
 Holds-true (crossing-of r s c) = crossing r s ≡ c
 Holds-true (bounding autonan pairs b) = lp1d autonan (record { feasibility = epsZero; scale = num 10 }) pairs ≡ b
@@ -109,7 +109,7 @@ examples =
     solving (from lpBound) 1000 (rowOf (num 0) (num 2) (num 6) ∷ []) (Level (f64 0x4008_0000_0000_0000)) NoRow NoRow 1 ∷  -- S2
     solving (from lpBound) 1000 (rowOf (num 0) (-num 2) (num 6) ∷ []) Nothing NoRow NoRow 1 ∷
     solving (from lpBound) 7 rows₃ (Point one one) (Holds 0) (Holds 1) 7 ∷  -- S3
-    stopping (from lpBound) 6 rows₃ 3 ∷
+    stopping (from lpBound) 6 rows₃ ∷
     solving (from lpBound) 1000 rows₄ (Point zero (f64 0x4000_0000_0000_0000)) (Holds 1) NoRow 23 ∷  -- S4
     solving (from lpBound) 1000 rows₅ (Point zero (f64 0x44ea_7843_79d9_9db4)) NoRow NoRow 28 ∷  -- S5
     solving (from (num 999999)) 1000 rows₅ (Point zero (f64 0x412e_847e_0000_0000)) NoRow NoRow 8 ∷
@@ -134,7 +134,7 @@ unfolding
     lp1d onward _>>?_ steepEnd steepStep uncrossed chosen flatEnd flatStep step every meets notAbove works firstThatWorks bounded cut interval
     everywhere middle attempts inside project onBoundary alone factors together oneSupports twoSupport supportedBy supports orderedBy ordered
     plausible tested qualified candidate better judge turn rebuild seedOf floorOf unmoved rebuilt onBoundaries recover violated frame secondTry repair
-    afterTrial pivot forward excess worst none deferred prepared widened begun passes saturated onBox lone many once solves allSolves count rowsWithin
+    afterTrial pivot forward excess worst none deferred prepared widened begun passes saturated onBox lone many once solves allSolves lastOf count rowsWithin
     answer activeRows answered finished allowed refusalOf taken solve round neg add sub mul div lt le eq isNan ofBits
 examples-hold =
     (refl, (refl, (refl, (refl, (refl, (refl, (refl, (refl, (refl, (refl, (refl, (refl, (refl, (refl, (refl, (refl, (refl, (refl, (refl, tt)))))))))))))))))))

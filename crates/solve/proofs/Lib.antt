@@ -3,6 +3,8 @@ pub mod Examples
 pub mod Rules
 pub mod Refusals
 pub mod Allowance
+pub mod Growing
+pub mod Returns
 pub mod RowsLeft
 pub mod Outcomes
 pub mod Values

@@ -24,7 +24,7 @@ use Rattle.solve.specs.declared.Answer.{Answer}
 use Rattle.solve.specs.declared.Answer.the-variants as answer-is
 use Rattle.solve.specs.declared.Outcome.the-variants.{Answered}
 use Rattle.solve.specs.Once.{lone, once}
-use Rattle.solve.specs.Solve.{solves, allSolves, count, answer, activeRows, answered, finished, solve, lp2dIncreMaxY, values}
+use Rattle.solve.specs.Solve.{solves, allSolves, lastOf, count, answer, activeRows, answered, finished, solve, lp2dIncreMaxY, values}
 use Rattle.solve.proofs.Refusals.{refusal-0}
 use Rattle.solve.proofs.Allowance.{takes}
 use Rattle.solve.proofs.Outcomes.{answer-has}
@@ -95,7 +95,7 @@ has-numbers T A flat =
 -- ---- no row, and one
 
 pub no-row : (T : Task) → lp2dIncreMaxY T [] ≡ record { outcome = Answered answer-is.Nothing noRows 0; rows = [] }
-unfolding lp2dIncreMaxY finished answered answer activeRows allSolves solves once count pure rowsOf flatOf if_then_else_
+unfolding lp2dIncreMaxY finished answered answer activeRows allSolves solves lastOf once count pure rowsOf flatOf if_then_else_
 no-row T = takes T (finished T) [] (refusal-0 T [] .1 (omega arith, omega arith))
 
 module _ (T : Task) (a b c : Float) where
@@ -103,7 +103,7 @@ module _ (T : Task) (a b c : Float) where
   row = record { a = a; b = b; c = c }
 
   one-row : lp2dIncreMaxY T (a ∷ b ∷ c ∷ []) ≡ record { outcome = Answered (answer (lone row)) (activeRows (lone row)) 1; rows = a ∷ b ∷ c ∷ [] }
-  unfolding lp2dIncreMaxY finished answered allSolves solves once count pure read _>>_ rowsOf flatOf if_then_else_
+  unfolding lp2dIncreMaxY finished answered allSolves solves lastOf once count pure read _>>_ rowsOf flatOf if_then_else_
   one-row = takes T (finished T) (a ∷ b ∷ c ∷ []) (refusal-0 T (a ∷ b ∷ c ∷ []) .1 (omega arith, omega arith))
 
   pub one-row-level : abs a ≺ epsZero ≡ true → b ≻ epsZero ≡ true

@@ -1,6 +1,6 @@
--- `lp_2d_incre_max_y_core` and the entries above it, with refusals 1 to 4. Assumes nothing.
+-- `lp_2d_incre_max_y_core` and the entries above it, with refusals 1 to 3. Assumes nothing.
 use Prim.Native.Nat.{ℕ, zero, suc, _+_, _-_}
-use mathlib.Core.List.{List, [], _∷_}
+use mathlib.Core.List.{List}
 use lib.Dec.{ltb, eqb}
 use lib.ListN.{length}
 use lib.Ieee.{Float, nan, isNan}
@@ -24,31 +24,44 @@ use Rattle.solve.specs.declared.Solution.{Solution}
 use Rattle.solve.specs.declared.Solution.the-variants as solution-is
 use Rattle.solve.specs.Once.{Once, once}
 
+infixr 30 _before_
 -- ---- the solves, one for each box
 
--- at most k solves, each of the rows as the one before left them and over a larger box, up to the first answer that does not sit on its box
-unfoldable pub solves : ℕ → Task → List Row → Float → List Once
-solves zero T rows bound = []
+-- one solve or more: each but the last sat on its box, and the last one answers
+pub data Solves : Type 0 where
+  last : Once → Solves
+  _before_ : Once → Solves → Solves
+
+-- each is of the rows as the one before left them, over a larger box. The box grows while the answer sits on it, k times at most; then the solve is the
+-- last, whatever it finds
+unfoldable pub solves : ℕ → Task → List Row → Float → Solves
+solves zero T rows bound = last (once T rows bound)
 solves (suc k) T rows bound =
     let first = once T rows bound in
     let more = solves k T (first .rows .value) (bound ⊗ lpBoxGrowth) in
-    let rest = if first .saturated then more else [] in
-    first ∷ rest
+    if first .saturated then first before more else last first
 
-unfoldable pub allSolves : Task → List Row → List Once
-allSolves T rows = solves (lpBoxGrowthSteps + 1) T rows lpBound
+unfoldable pub allSolves : Task → List Row → Solves
+allSolves T rows = solves lpBoxGrowthSteps T rows lpBound
 
-unfoldable pub count : List Once → ℕ
-count [] = 0
-count (o ∷ os) = o .rows .readings + o .run .readings + count os
+unfoldable pub lastOf : Solves → Once
+lastOf (last o) = o
+lastOf (o before os) = lastOf os
+
+-- the readings of one solve, and of all
+abbrev pub takenBy : Once → ℕ
+takenBy o = o .rows .readings + o .run .readings
+
+unfoldable pub count : Solves → ℕ
+count (last o) = takenBy o
+count (o before os) = takenBy o + count os
 
 -- the rows after the last normalisation whose readings all fitted in those left: too few for a solve's rows leave them, and too few for its passes end it
-unfoldable pub rowsWithin : ℕ → List Row → List Once → List Row
-rowsWithin left rows [] = rows
-rowsWithin left rows (o ∷ os) =
-    let taken = o .rows .readings + o .run .readings in
-    let rest = rowsWithin (left - taken) (o .rows .value) os in
-    if ltb left (o .rows .readings) then rows else if ltb left taken then o .rows .value else rest
+unfoldable pub rowsWithin : ℕ → List Row → Solves → List Row
+rowsWithin left rows (last o) = if ltb left (o .rows .readings) then rows else o .rows .value
+rowsWithin left rows (o before os) =
+    let rest = rowsWithin (left - takenBy o) (o .rows .value) os in
+    if ltb left (o .rows .readings) then rows else if ltb left (takenBy o) then o .rows .value else rest
 
 -- ---- what comes back
 
@@ -70,22 +83,20 @@ pub record Ended (A : Type 0) : Type 0 where
   pub outcome : Outcome
   pub rows : A
 
--- the last of some solves, counting n in all, answers; refusal 4 where there is none
-unfoldable pub answered : ℕ → List Row → List Once → Ended (List Row)
-answered n rows [] = record { outcome = Stopped 4 n; rows = rows }
-answered n rows (o ∷ []) = record { outcome = Answered (answer (o .run .value)) (activeRows (o .run .value)) n; rows = o .rows .value }
-answered n rows (o ∷ p ∷ os) = answered n (o .rows .value) (p ∷ os)
+-- the answer of a solve, with the count of all
+unfoldable pub answered : ℕ → Once → Ended (List Row)
+answered n o = record { outcome = Answered (answer (o .run .value)) (activeRows (o .run .value)) n; rows = o .rows .value }
 
--- with no allowance
+-- with no allowance: the last solve answers
 unfoldable pub finished : Task → List Row → Ended (List Row)
-finished T rows = let all = allSolves T rows in answered (count all) rows all
+finished T rows = let all = allSolves T rows in answered (count all) (lastOf all)
 
 -- within an allowance the same; above it refusal 3
 unfoldable pub allowed : Task → ℕ → List Row → Ended (List Row)
 allowed T allowance rows =
     let all = allSolves T rows in
     let done = finished T rows in
-    if ltb allowance (count all) then record { outcome = Stopped 3 allowance; rows = rowsWithin allowance rows all } else done
+    if ltb allowance (count all) then record { outcome = Stopped allowance; rows = rowsWithin allowance rows all } else done
 
 -- ---- the entries, over rows that lie flat: refusals 1 and 2 leave everything as it was
 
@@ -108,20 +119,20 @@ lp2dIncreMaxY T flat = taken T (finished T) flat
 
 unfoldable pub silent : Outcome → Solution
 silent (Answered a act n) = solution-is.Answered a
-silent (Stopped number n) = solution-is.Refused number
+silent (Stopped n) = solution-is.Refused 3
 silent (Refused number) = solution-is.Refused number
 
--- a caller's collector after a solve: cleared by refusals 3 and 4, and as it was after 1 and 2
+-- a caller's collector after a solve: cleared by refusal 3, and as it was after 1 and 2
 unfoldable pub collector : Collector → Outcome → Collector
 collector coll (Answered a act n) = collected coll act
-collector coll (Stopped number n) = collected coll noRows
+collector coll (Stopped n) = collected coll noRows
 collector coll (Refused number) = coll
 
 -- ---- the paper's number of an outcome, 0 where it is an answer, and the values of an answer
 
 unfoldable pub number : Outcome → ℕ
 number (Answered a act n) = 0
-number (Stopped k n) = k
+number (Stopped n) = 3
 number (Refused k) = k
 
 unfoldable pub values : Answer → Point

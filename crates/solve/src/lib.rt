@@ -14,7 +14,7 @@ ghost use Rattle.float.specs.Float.{finite};
 ghost use Rattle.readings.specs.Readings.{within};
 ghost use Rattle.rows.specs.Rows.{rowsOf, flatOf};
 ghost use Rattle.step.specs.Step.{stepped};
-ghost use Rattle.solve.specs.Once.{prepared, preparing, paying, leaves, widened, begun, passes, saturated, rounded, rounding, lone};
+ghost use Rattle.solve.specs.Once.{prepared, preparing, paying, leaves, solveOnce, widened, begun, passes, saturated, lone};
 ghost use Rattle.solve.specs.declared.Outcome.the-variants.{Answered};
 ghost use Rattle.solve.specs.Solve.{answer, activeRows, allowed, refusalOf, solve, lp2dIncreMaxY, silent};
 
@@ -44,10 +44,10 @@ pub enum Answer {
     Nothing,
 }
 
-// An answer with the active rows and the count; refusal 3 or 4 with the count and no active rows; or refusal 1 or 2.
+// An answer with the active rows and the count; refusal 3 with its count, which is the allowance; or refusal 1 or 2.
 pub enum Outcome {
     Answered(Answer, Active, u64),
-    Stopped(u64, u64),
+    Stopped(u64),
     Refused(u64),
 }
 
@@ -60,13 +60,6 @@ pub enum Solution {
 // The rows are prepared, with the readings left; or too few were left, and nothing was written.
 pub enum Prepared {
     Done(u64),
-    Spent,
-}
-
-// One solve over one box: what it found, off the box or on it, with the readings left; or too few were left.
-pub enum Round {
-    Off(Found, u64),
-    OnBox(State, u64),
     Spent,
 }
 
@@ -171,28 +164,7 @@ fn both_passes(rows: &[f64], n: usize, task: Task, bound: f64, left: u64) -> Ste
     }
 }
 
-// A solve over one box, of rows that are prepared.
-fn one_round(rows: &[f64], n: usize, task: Task, bound: f64, left: u64) -> Round
-    requires { ⌜ 3 * n ≡ length (now rows) ⌝ }
-    ensures { λ r. ⌜ r ≡ rounded (widened (task .start) bound) (within left (passes task (rowsOf (now (rows .entry))) (widened (task .start) bound))) ⌝ }
-{
-    let start = task.start;
-    let wide = widened(start, bound);
-    let got = both_passes(rows, n, task, wide, left);
-    match got {
-        Stepped::Spent => Round::Spent,
-        Stepped::Failed(rest) => Round::Off(Found::Failed, rest),
-        Stepped::Done(s, rest) => {
-            let at = s.at;
-            if is_saturated(at, wide) {
-                return Round::OnBox(s, rest);
-            }
-            Round::Off(Found::Done(s), rest)
-        }
-    }
-}
-
-// A solve of two rows or more over one box: the rows are prepared, and what is left of the readings goes to the passes.
+// A solve of two rows or more over one box: the rows are prepared, and what is left of the readings goes to both passes.
 fn solve_once(
     rows: &mut [f64],
     n: usize,
@@ -200,15 +172,15 @@ fn solve_once(
     mode: Normalize,
     bound: f64,
     left: u64,
-) -> Round
+) -> Stepped
     requires { ⌜ 3 * n ≡ length (now rows) ⌝ }
-    ensures answer { λ r. ⌜ r ≡ rounding task bound (within left (prepared mode (rowsOf (now (rows .entry))))) ⌝ }
+    ensures answer { λ r. ⌜ r ≡ stepped (within left (solveOnce task mode (rowsOf (now (rows .entry))) bound)) ⌝ }
     ensures lent { λ _. ⌜ now (rows .exit) ≡ leaves (now (rows .entry)) (within left (prepared mode (rowsOf (now (rows .entry))))) ⌝ }
 {
     let ready = prepare(rows, n, mode, left);
     match ready {
-        Prepared::Spent => Round::Spent,
-        Prepared::Done(rest) => one_round(rows, n, task, bound, rest),
+        Prepared::Spent => Stepped::Spent,
+        Prepared::Done(rest) => both_passes(rows, n, task, bound, rest),
     }
 }
 
@@ -280,13 +252,13 @@ fn few(rows: &[f64], n: usize, task: Task, allowance: u64) -> Outcome
         return answered(Found::Failed, 0);
     }
     if allowance == 0 {
-        return Outcome::Stopped(3, 0);
+        return Outcome::Stopped(0);
     }
     answered(lone(rows::row_at(rows, 0)), 1)
 }
 
 // Two rows or more: seven solves at most, each of the rows as the one before left them, normalised again, and over a larger
-// box. The last one always returns.
+// box. The seventh returns, whatever it finds.
 fn many(rows: &mut [f64], n: usize, task: Task, allowance: u64) -> Outcome
     requires { ⌜ (3 * n ≡ length (now rows)) × (2 ≤ n) ⌝ }
     ensures answer { λ r. ⌜ r ≡ allowed task allowance (rowsOf (now (rows .entry))) .outcome ⌝ }
@@ -296,17 +268,18 @@ fn many(rows: &mut [f64], n: usize, task: Task, allowance: u64) -> Outcome
     let mut bound = 1e6;
     let mut left = allowance;
     let mut k = 0usize;
-    while k < 7 {
-        let got = solve_once(rows, n, task, mode, bound, left);
+    loop {
+        let wide = widened(task.start, bound);
+        let got = solve_once(rows, n, task, mode, wide, left);
         match got {
-            Round::Spent => {
-                return Outcome::Stopped(3, allowance);
+            Stepped::Spent => {
+                return Outcome::Stopped(allowance);
             }
-            Round::Off(found, over) => {
-                return answered(found, allowance - over);
+            Stepped::Failed(over) => {
+                return answered(Found::Failed, allowance - over);
             }
-            Round::OnBox(s, over) => {
-                if k == 6 {
+            Stepped::Done(s, over) => {
+                if k == 6 || !is_saturated(s.at, wide) {
                     return answered(Found::Done(s), allowance - over);
                 }
                 left = over;
@@ -316,8 +289,6 @@ fn many(rows: &mut [f64], n: usize, task: Task, allowance: u64) -> Outcome
         bound = bound * 1e3;
         k += 1;
     }
-    let count = allowance - left;
-    Outcome::Stopped(4, count)
 }
 
 // Any number of rows.
@@ -363,7 +334,7 @@ pub fn lp_2d_incre_max_y(rows: &mut [f64], task: Task) -> Solution
     let outcome = solve(rows, task, 18446744073709551615);
     match outcome {
         Outcome::Answered(a, act, n) => Solution::Answered(a),
-        Outcome::Stopped(number, n) => Solution::Refused(number),
+        Outcome::Stopped(n) => Solution::Refused(3),
         Outcome::Refused(number) => Solution::Refused(number),
     }
 }

@@ -43,5 +43,5 @@ refusal-length k = simp length-append (omega (arith, number-length k))
 pub outcome-length : (got : Outcome) → length (outcomeWords got) ≤ longestOutcome
 unfolding outcomeWords longestOutcome longestRefusal
 outcome-length (Answered a act n) = simp length-append (omega (arith, answer-length a, slot-length (act .first), slot-length (act .second), number-length n))
-outcome-length (Stopped k n) = omega (arith, refusal-length k)
+outcome-length (Stopped n) = omega (arith, refusal-length 3)
 outcome-length (Refused k) = omega (arith, refusal-length k)

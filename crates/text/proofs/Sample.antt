@@ -48,7 +48,7 @@ Sample =
     × (outcomeLine 99 (answered (Across infinity) NoRow NoRow 18446744073709551615) prints "99 across 7FF0000000000000 - - 18446744073709551615\n")
     × (outcomeLine 100 (answered (Point nan (f64 0x8000000000000000)) (Holds 5) (Holds 12) 1) prints "100 point 7FF8000000000000 8000000000000000 5 12 1\n")
     × (outcomeLine 101 (answered Nothing NoRow NoRow 2) prints "101 nothing - - 2\n")
-    × (outcomeLine 102 (Stopped 3 1000) prints "102 refused 3\n")
+    × (outcomeLine 102 (Stopped 1000) prints "102 refused 3\n")
     × (outcomeLine 103 (Refused 8) prints "103 refused 8\n")
     × (endLine 0 prints "end 0\n")
 

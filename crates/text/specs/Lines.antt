@@ -57,7 +57,7 @@ refusalWords k = refusedWord ++ numberWord k
 
 unfoldable pub outcomeWords : Outcome → List ℕ
 outcomeWords (Answered a act n) = answerWords a ++ slotWord (act .first) ++ slotWord (act .second) ++ numberWord n
-outcomeWords (Stopped k n) = refusalWords k
+outcomeWords (Stopped n) = refusalWords 3
 outcomeWords (Refused k) = refusalWords k
 
 -- record `number` and its outcome

@@ -136,7 +136,7 @@ fn put_outcome(out: &mut [u8], at: usize, got: Outcome) -> usize
 {
     match got {
         Outcome::Refused(k) => put_refusal(out, at, k),
-        Outcome::Stopped(k, n) => put_refusal(out, at, k),
+        Outcome::Stopped(n) => put_refusal(out, at, 3),
         Outcome::Answered(a, act, n) => {
             let one = act.first;
             let other = act.second;

@@ -1,8 +1,10 @@
--- `solve::many` meets its contract. The loop's invariant: what the solves still to go come to with the readings left is what all seven come to.
+-- `solve::many` meets its contract. The loop's invariant: what the solves still to go come to with the readings left is what all of them come to.
 use mathlib.Core.Path.{refl, sym, _∙_}
+use mathlib.Core.Logic.{⊎-elim}
 use Prim.Native.Nat.{_-_}
 use native.Mathlib.Omega.{arith}
 use borrow.Author.Needs.{needs}
+use borrow.Author.Tests.{not-true, not-false}
 use denote.Ref.{now}
 use Rattle.rows.specs.Constants.{lpBound, lpBoxGrowth}
 use Rattle.rows.specs.Rows.{rowsOf}
@@ -22,6 +24,9 @@ loop-holds c =
     let a = c .before .args in
     record { even = omega arith; few = omega arith; enough = omega arith; again = refl; rest = from-all (a .task) (a .allowance) (rowsOf (now (a .rows))) }
 
+widened-requires : tie.Need-widened-requires Inv-loop μ-loop
+widened-requires c κs = search needs
+
 solve-once-requires : tie.Need-solve-once-requires Inv-loop μ-loop
 solve-once-requires c κs = search needs
 
@@ -34,9 +39,10 @@ same-length c = search needs
 returns : tie.Need-returns Inv-loop μ-loop
 returns c =
     let round = c .before .before .before .before in
-    let l = round .before .before .before .loop in
-    let said = sym (c .enum-told .given .1) ∙ round .solve-once .ensures .0 in
-    turn (omega arith) (l .inv) (round .solve-once .ensures .1) (omega arith) said
+    let l = round .before .before .before .loop .inv in
+    let wide = round .before .before .widened .ensures in
+    let solved = round .solve-once .ensures in
+    turn (omega arith) l (solved .1) (omega arith) wide (solved .0) (c .enum-told .given .1)
 
 enum-known-got : tie.Need-enum-known-got Inv-loop μ-loop
 enum-known-got c = search needs
@@ -44,9 +50,10 @@ enum-known-got c = search needs
 sub-answered : tie.Need-sub-answered Inv-loop μ-loop
 sub-answered c =
     let round = c .before .before .before .before .before in
-    let l = round .before .before .before .loop in
-    let said = sym (c .before .got .given .1) ∙ round .solve-once .ensures .0 in
-    omega (arith, turn (omega arith) (l .inv) (round .solve-once .ensures .1) (omega arith) said .0)
+    let l = round .before .before .before .loop .inv in
+    let wide = round .before .before .widened .ensures in
+    let solved = round .solve-once .ensures in
+    omega (arith, turn (omega arith) l (solved .1) (omega arith) wide (solved .0) (c .before .got .given .1) .0)
 
 answered-requires : tie.Need-answered-requires Inv-loop μ-loop
 answered-requires c κs = search needs
@@ -57,20 +64,25 @@ same-length-2 c = search needs
 returns-2 : tie.Need-returns-2 Inv-loop μ-loop
 returns-2 c =
     let round = c .before .before .before .before .before .before in
-    let l = round .before .before .before .loop in
-    let said = sym (c .before .before .got .given .1) ∙ round .solve-once .ensures .0 in
-    let e = turn (omega arith) (l .inv) (round .solve-once .ensures .1) (omega arith) said .1 in
-    (c .answered .ensures ∙ e .0, e .1)
+    let l = round .before .before .before .loop .inv in
+    let wide = round .before .before .widened .ensures in
+    let solved = round .solve-once .ensures in
+    let ends = turn (omega arith) l (solved .1) (omega arith) wide (solved .0) (c .before .before .got .given .1) .1 in
+    (c .answered .ensures ∙ ends .0, ends .1)
 
 enum-known-got-2 : tie.Need-enum-known-got-2 Inv-loop μ-loop
 enum-known-got-2 c = search needs
 
+is-saturated-requires : tie.Need-is-saturated-requires Inv-loop μ-loop
+is-saturated-requires c κs = search needs
+
 sub-answered-2 : tie.Need-sub-answered-2 Inv-loop μ-loop
 sub-answered-2 c =
     let round = c .before .before .before .before .before .before in
-    let l = round .before .before .before .loop in
-    let said = sym (c .before .before .got2 .given .1) ∙ round .solve-once .ensures .0 in
-    omega (arith, turn (omega arith) (l .inv) (round .solve-once .ensures .1) (omega arith) said .0)
+    let l = round .before .before .before .loop .inv in
+    let wide = round .before .before .widened .ensures in
+    let solved = round .solve-once .ensures in
+    omega (arith, turn (omega arith) l (solved .1) (omega arith) wide (solved .0) (c .before .before .got2 .given .1) .0)
 
 answered-requires-2 : tie.Need-answered-requires-2 Inv-loop μ-loop
 answered-requires-2 c κs = search needs
@@ -81,10 +93,13 @@ same-length-3 c = search needs
 returns-3 : tie.Need-returns-3 Inv-loop μ-loop
 returns-3 c =
     let round = c .before .before .before .before .before .before .before in
-    let l = round .before .before .before .loop in
-    let said = sym (c .before .before .before .got2 .given .1) ∙ round .solve-once .ensures .0 in
-    let e = turn (omega arith) (l .inv) (round .solve-once .ensures .1) (omega arith) said .1 (omega arith) in
-    (c .answered2 .ensures ∙ e .0, e .1)
+    let l = round .before .before .before .loop .inv in
+    let wide = round .before .before .widened .ensures in
+    let solved = round .solve-once .ensures in
+    let after = turn (omega arith) l (solved .1) (omega arith) wide (solved .0) (c .before .before .before .got2 .given .1) in
+    let ends =
+    ⊎-elim (λ w. after .1 (omega (arith, l .few))) (λ w. after .2 (rw wide at (sym (w .1 .ensures) ∙ not-true _ (w .2 .taken)))) (c .before .if1 .came) in
+    (c .answered2 .ensures ∙ ends .0, ends .1)
 
 add-k : tie.Need-add-k Inv-loop μ-loop
 add-k c = search needs
@@ -95,19 +110,12 @@ loop-less c = search needs
 loop-again : tie.Need-loop-again Inv-loop μ-loop
 unfolding lpBoxGrowth
 loop-again c =
-    let round = c .before .before .before .before .before .before in
-    let l = round .before .before .before .loop in
-    let said = sym (c .before .before .got2 .given .1) ∙ round .solve-once .ensures .0 in
-    turn (omega arith) (l .inv) (round .solve-once .ensures .1) (omega arith) said .2 (omega arith)
-
-sub-count : tie.Need-sub-count Inv-loop μ-loop
-sub-count c = search needs
-
-same-length-4 : tie.Need-same-length-4 Inv-loop μ-loop
-same-length-4 c = search needs
-
-returns-4 : tie.Need-returns-4 Inv-loop μ-loop
-returns-4 c = absurd (omega arith)
+    let round = c .before .before .before .before .before .before .before .before in
+    let l = round .before .before .before .loop .inv in
+    let wide = round .before .before .widened .ensures in
+    let solved = round .solve-once .ensures in
+    let on = rw wide at (sym (c .before .is-saturated .ensures) ∙ not-false _ (c .if2 .left)) in
+    turn (omega arith) l (solved .1) (omega arith) wide (solved .0) (c .before .before .before .before .got2 .given .1) .3 (omega arith) on
 
 pub many-spec : {M : Type 1} → statement M
 many-spec =
@@ -116,6 +124,7 @@ many-spec =
     Inv-loop
     μ-loop
     loop-holds
+    widened-requires
     solve-once-requires
     enum-told
     same-length
@@ -126,13 +135,11 @@ many-spec =
     same-length-2
     returns-2
     enum-known-got-2
+    is-saturated-requires
     sub-answered-2
     answered-requires-2
     same-length-3
     returns-3
     add-k
     loop-less
-    loop-again
-    sub-count
-    same-length-4
-    returns-4)
+    loop-again)
