@@ -18,15 +18,14 @@ use Rattle.rows.specs.Rows.{rowsOf, flatOf}
 use Rattle.rows.proofs.Lengths.{length-rowsOf}
 use Rattle.rows.proofs.Written.{flat-rows}
 use Rattle.step.specs.declared.Found.{Found}
-use Rattle.step.specs.declared.Found.the-variants as found-is
-use Rattle.step.specs.declared.Stepped.{Stepped}
-use Rattle.step.specs.declared.Stepped.the-variants.{Done, Failed, Spent}
-use Rattle.step.specs.Step.{stepped}
+use Rattle.step.specs.declared.Found.the-variants.{Done}
 use Rattle.solve.specs.declared.Normalize.{Normalize}
 use Rattle.solve.specs.declared.Task.{Task}
+use Rattle.solve.specs.declared.Round.{Round}
+use Rattle.solve.specs.declared.Round.the-variants.{Off, OnBox, Spent}
 use Rattle.solve.specs.declared.Outcome.{Outcome}
 use Rattle.solve.specs.declared.Outcome.the-variants.{Answered, Stopped}
-use Rattle.solve.specs.Once.{Once, prepared, widened, saturated, onBox, many, once, leaves, solveOnce}
+use Rattle.solve.specs.Once.{Once, prepared, many, once, leaves, rounding}
 use Rattle.solve.specs.Solve.{Solves, last, _before_, solves, allSolves, lastOf, takenBy, count, rowsWithin, answer, activeRows}
 use Rattle.solve.specs.Solve.{Ended, answered, finished, allowed}
 use Rattle.solve.proofs.Growing.{firstOf, first-counted, is-first, ends, grows}
@@ -50,7 +49,7 @@ module _ (A : ℕ) where
     ends-answered within = rw (le-ltb left (count os) within)
 
   -- the first of them came to its end
-  module _ {left l : ℕ} (enough : left ≤ A) (rows : List Row) {o : Once} {kept : List Row} {found : Found} (r : Ran left o kept found l) where
+  module _ {left l : ℕ} (enough : left ≤ A) (rows : List Row) {o : Once} {kept : List Row} {found : Found} {on : Bool} (r : Ran left o kept found l on) where
     last-answers : ending left rows (last o) ≡ record { outcome = Answered (answer found) (activeRows found) (A - l); rows = kept }
     unfolding count lastOf answered
     last-answers =
@@ -102,24 +101,22 @@ module _ (T : Task) (A : ℕ) where
         let is : firstOf all ≡ first = is-first T rows bound k ∙ once-many T rows bound two in
         ends-stopped A left rows all (omega (arith, rw is at (first-counted all), s .0)) ∙ rw (s .1 all is)
 
-    module _ (enough : left ≤ A) {kept : List Row} {found : Found} {l : ℕ} (r : Ran left first kept found l) where
-      sits : once T rows bound .saturated ≡ onBox (widened (T .start) bound) found
-      unfolding many
-      sits = rw (once-many T rows bound two) (ap (onBox (widened (T .start) bound)) (r .finds))
+    module _ (enough : left ≤ A) {kept : List Row} {found : Found} {l : ℕ} {on : Bool} (r : Ran left first kept found l on) where
+      sits : once T rows bound .saturated ≡ on
+      sits = rw (once-many T rows bound two) (r .sits)
 
       -- the first is the last
-      first-ends : (k ≡ 0) ⊎ (onBox (widened (T .start) bound) found ≡ false)
-          → from k left rows bound ≡ record { outcome = Answered (answer found) (activeRows found) (A - l); rows = kept }
+      first-ends : (k ≡ 0) ⊎ (on ≡ false) → from k left rows bound ≡ record { outcome = Answered (answer found) (activeRows found) (A - l); rows = kept }
       unfolding from
       first-ends h =
           let here = ends T rows bound k (⊎-map (λ none. none) (λ off. sits ∙ off) h) ∙ ap last (once-many T rows bound two) in
           rw here (last-answers A enough rows r)
 
       -- or the box grows
-      first-goes-on : onBox (widened (T .start) bound) found ≡ true → from (suc k) left rows bound ≡ from k l kept (bound ⊗ lpBoxGrowth)
+      first-goes-on : on ≡ true → from (suc k) left rows bound ≡ from k l kept (bound ⊗ lpBoxGrowth)
       unfolding from
-      first-goes-on on =
-          let grown = rw (once-many T rows bound two) at (grows T rows bound k (sits ∙ on)) in
+      first-goes-on sat =
+          let grown = rw (once-many T rows bound two) at (grows T rows bound k (sits ∙ sat)) in
           let kept-on = ap (λ (R : List Row). first before solves k T R (bound ⊗ lpBoxGrowth)) (r .keeps) in
           ap (ending A left rows) (grown ∙ kept-on) ∙ next-goes-on A enough rows r _
 
@@ -136,9 +133,6 @@ pub record Going (T : Task) (A n : ℕ) (rows₀ : List Row) (flat : List Float)
 module _ {T : Task} {A n : ℕ} (two : 2 ≤ n) {rows₀ : List Row} {flat flat′ : List Float} {mode : Normalize} {bound : Float} {left k : ℕ}
     (g : Going T A n rows₀ flat mode bound left k)
     (lent : flat′ ≡ leaves flat (within left (prepared mode (rowsOf flat)))) (same : length flat′ ≡ length flat) where
-  abbrev wide : Float
-  wide = widened (T .start) bound
-
   more : 2 ≤ length (rowsOf flat)
   more = omega (arith, length-rowsOf flat, g .even)
 
@@ -152,23 +146,24 @@ module _ {T : Task} {A n : ℕ} (two : 2 ≤ n) {rows₀ : List Row} {flat flat�
       (ap (λ x. x .outcome) all, sym (flat-rows flat′ n (omega (arith, same, g .even))) ∙ ap (λ x. flatOf (x .rows)) all)
 
   -- or goes on, where the answer sits on the box and the solve is not the seventh
-  abbrev pub After : Stepped → Type 0
-  After (Done s l) =
-      let done = Answered (answer (found-is.Done s)) (activeRows (found-is.Done s)) (A - l) in
-      (l ≤ A) × (6 ≤ k → Ends done) × (saturated (s .at) wide ≡ false → Ends done)
-      × (k < 6 → saturated (s .at) wide ≡ true → Going T A n rows₀ flat′ (T .normalize) (bound ⊗ lpBoxGrowth) l (k + 1))
-  After (Failed l) = (l ≤ A) × Ends (Answered (answer found-is.Failed) (activeRows found-is.Failed) (A - l))
+  abbrev pub After : Round → Type 0
+  After (Off found l) = (l ≤ A) × Ends (Answered (answer found) (activeRows found) (A - l))
+  After (OnBox s l) =
+      (l ≤ A) × (6 ≤ k → Ends (Answered (answer (Done s)) (activeRows (Done s)) (A - l)))
+      × (k < 6 → Going T A n rows₀ flat′ (T .normalize) (bound ⊗ lpBoxGrowth) l (k + 1))
   After Spent = Ends (Stopped A)
 
-  after : (r : Stepped) → Told T flat flat′ bound left r → After r
-  unfolding onBox
-  after (Done s l) r = (
+  after : (r : Round) → Told T flat flat′ bound left r → After r
+  after (Off found l) r = (
+    omega (arith, r .takes, g .enough),
+    leaves-with (first-ends T A (6 - k) left (rowsOf flat) bound more (g .enough) r (inr refl)),
+  )
+  after (OnBox s l) r = (
     omega (arith, r .takes, g .enough),
     λ seventh. leaves-with (first-ends T A (6 - k) left (rowsOf flat) bound more (g .enough) r (inl (omega arith))),
-    λ off. leaves-with (first-ends T A (6 - k) left (rowsOf flat) bound more (g .enough) r (inr off)),
-    λ some on.
+    λ some.
         let one-fewer : 6 - k ≡ suc (6 - (k + 1)) = omega arith in
-        let goes-on = first-goes-on T A (6 - (k + 1)) left (rowsOf flat) bound more (g .enough) r on in
+        let goes-on = first-goes-on T A (6 - (k + 1)) left (rowsOf flat) bound more (g .enough) r refl in
         record {
           even = omega (arith, same, g .even);
           few = omega arith;
@@ -177,14 +172,10 @@ module _ {T : Task} {A n : ℕ} (two : 2 ≤ n) {rows₀ : List Row} {flat flat�
           rest = sym goes-on ∙ rw one-fewer at (g .rest);
         },
   )
-  after (Failed l) r = (
-    omega (arith, r .takes, g .enough),
-    leaves-with (first-ends T A (6 - k) left (rowsOf flat) bound more (g .enough) r (inr refl)),
-  )
   after Spent s = leaves-with (first-stops T A (6 - k) left (rowsOf flat) bound more s)
 
-  pub turn : {w : Float} {got r : Stepped} → w ≡ wide → got ≡ stepped (within left (solveOnce T mode (rowsOf flat) w)) → got ≡ r → After r
-  turn {r} w-is gave is =
-      let said = rw (w-is, g .again) at (sym is ∙ gave) in
+  pub turn : {got r : Round} → got ≡ rounding T bound (within left (prepared mode (rowsOf flat))) → got ≡ r → After r
+  turn {r} gave is =
+      let said = rw (g .again) at (sym is ∙ gave) in
       let lent-again = rw (g .again) at lent in
       after r (subst (Told T flat flat′ bound left) (sym said) (told T flat flat′ bound left _ refl lent-again))

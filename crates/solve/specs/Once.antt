@@ -6,7 +6,7 @@ use lib.ListN.{length, drop}
 use lib.Ieee.{Float, nan}
 use Rattle.float.specs.Operators.{if_then_else_, _⊗_, _⊘_, _≺_, _≼_, _≻_, _≈_}
 use Rattle.float.specs.Float.{abs, finite, max}
-use Rattle.readings.specs.Readings.{Counted, pure, read, _>>=_, _>>_, Paid, paid, stopped, within}
+use Rattle.readings.specs.Readings.{Counted, pure, read, _>>_, Paid, paid, stopped, within}
 use Rattle.rows.specs.Constants.{epsZero, lpBound, lpBoxGrowth, half, maxDeferredRounds}
 use Rattle.rows.specs.declared.Row.{Row}
 use Rattle.rows.specs.declared.Point.{Point}
@@ -22,6 +22,8 @@ use Rattle.solve.specs.declared.Normalize.the-variants.{Off, Source}
 use Rattle.solve.specs.declared.Task.{Task}
 use Rattle.solve.specs.declared.Prepared.{Prepared}
 use Rattle.solve.specs.declared.Prepared.the-variants as prepared-is
+use Rattle.solve.specs.declared.Round.{Round}
+use Rattle.solve.specs.declared.Round.the-variants as round-is
 use Rattle.passes.specs.Passes.{frame, forward, deferred}
 
 -- the rows as a solve of two or more works on them
@@ -79,10 +81,6 @@ once T (r ∷ s ∷ rows) bound = many T (r ∷ s ∷ rows) bound
 
 -- ---- what the code gives back
 
--- a solve over one box: the rows are prepared, and both passes go over them
-unfoldable pub solveOnce : Task → Normalize → List Row → Float → Counted Found
-solveOnce T mode rows bound = prepared mode rows >>= λ R. passes T R bound
-
 unfoldable pub preparing : Paid (List Row) → Prepared
 preparing (paid rows left) = prepared-is.Done left
 preparing stopped = prepared-is.Spent
@@ -95,3 +93,13 @@ paying left readings = preparing (within left (read readings >> pure []))
 unfoldable pub leaves : List Float → Paid (List Row) → List Float
 leaves flat (paid rows left) = flatOf rows
 leaves flat stopped = flat
+
+unfoldable pub rounded : Float → Paid Found → Round
+rounded wide (paid Failed left) = round-is.Off Failed left
+rounded wide (paid (Done s) left) = if saturated (s .at) wide then round-is.OnBox s left else round-is.Off (Done s) left
+rounded wide stopped = round-is.Spent
+
+-- a solve over one box, of the rows as they were prepared
+unfoldable pub rounding : Task → Float → Paid (List Row) → Round
+rounding T bound (paid R left) = let wide = widened (T .start) bound in rounded wide (within left (passes T R wide))
+rounding T bound stopped = round-is.Spent

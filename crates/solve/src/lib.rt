@@ -14,7 +14,7 @@ ghost use Rattle.float.specs.Float.{finite};
 ghost use Rattle.readings.specs.Readings.{within};
 ghost use Rattle.rows.specs.Rows.{rowsOf, flatOf};
 ghost use Rattle.step.specs.Step.{stepped};
-ghost use Rattle.solve.specs.Once.{prepared, preparing, paying, leaves, solveOnce, widened, begun, passes, saturated, lone};
+ghost use Rattle.solve.specs.Once.{prepared, preparing, paying, leaves, widened, begun, passes, saturated, rounded, rounding, lone};
 ghost use Rattle.solve.specs.declared.Outcome.the-variants.{Answered};
 ghost use Rattle.solve.specs.Solve.{answer, activeRows, allowed, refusalOf, solve, lp2dIncreMaxY, silent};
 
@@ -60,6 +60,13 @@ pub enum Solution {
 // The rows are prepared, with the readings left; or too few were left, and nothing was written.
 pub enum Prepared {
     Done(u64),
+    Spent,
+}
+
+// One solve over one box: what it found, off the box or on it, with the readings left; or too few were left.
+pub enum Round {
+    Off(Found, u64),
+    OnBox(State, u64),
     Spent,
 }
 
@@ -164,7 +171,28 @@ fn both_passes(rows: &[f64], n: usize, task: Task, bound: f64, left: u64) -> Ste
     }
 }
 
-// A solve of two rows or more over one box: the rows are prepared, and what is left of the readings goes to both passes.
+// A solve over one box, of rows that are prepared.
+fn one_round(rows: &[f64], n: usize, task: Task, bound: f64, left: u64) -> Round
+    requires { ⌜ 3 * n ≡ length (now rows) ⌝ }
+    ensures { λ r. ⌜ r ≡ rounded (widened (task .start) bound) (within left (passes task (rowsOf (now (rows .entry))) (widened (task .start) bound))) ⌝ }
+{
+    let start = task.start;
+    let wide = widened(start, bound);
+    let got = both_passes(rows, n, task, wide, left);
+    match got {
+        Stepped::Spent => Round::Spent,
+        Stepped::Failed(rest) => Round::Off(Found::Failed, rest),
+        Stepped::Done(s, rest) => {
+            let at = s.at;
+            if is_saturated(at, wide) {
+                return Round::OnBox(s, rest);
+            }
+            Round::Off(Found::Done(s), rest)
+        }
+    }
+}
+
+// A solve of two rows or more over one box: the rows are prepared, and what is left of the readings goes to the passes.
 fn solve_once(
     rows: &mut [f64],
     n: usize,
@@ -172,15 +200,15 @@ fn solve_once(
     mode: Normalize,
     bound: f64,
     left: u64,
-) -> Stepped
+) -> Round
     requires { ⌜ 3 * n ≡ length (now rows) ⌝ }
-    ensures answer { λ r. ⌜ r ≡ stepped (within left (solveOnce task mode (rowsOf (now (rows .entry))) bound)) ⌝ }
+    ensures answer { λ r. ⌜ r ≡ rounding task bound (within left (prepared mode (rowsOf (now (rows .entry))))) ⌝ }
     ensures lent { λ _. ⌜ now (rows .exit) ≡ leaves (now (rows .entry)) (within left (prepared mode (rowsOf (now (rows .entry))))) ⌝ }
 {
     let ready = prepare(rows, n, mode, left);
     match ready {
-        Prepared::Spent => Stepped::Spent,
-        Prepared::Done(rest) => both_passes(rows, n, task, bound, rest),
+        Prepared::Spent => Round::Spent,
+        Prepared::Done(rest) => one_round(rows, n, task, bound, rest),
     }
 }
 
@@ -269,17 +297,16 @@ fn many(rows: &mut [f64], n: usize, task: Task, allowance: u64) -> Outcome
     let mut left = allowance;
     let mut k = 0usize;
     loop {
-        let wide = widened(task.start, bound);
-        let got = solve_once(rows, n, task, mode, wide, left);
+        let got = solve_once(rows, n, task, mode, bound, left);
         match got {
-            Stepped::Spent => {
+            Round::Spent => {
                 return Outcome::Stopped(allowance);
             }
-            Stepped::Failed(over) => {
-                return answered(Found::Failed, allowance - over);
+            Round::Off(found, over) => {
+                return answered(found, allowance - over);
             }
-            Stepped::Done(s, over) => {
-                if k == 6 || !is_saturated(s.at, wide) {
+            Round::OnBox(s, over) => {
+                if k == 6 {
                     return answered(Found::Done(s), allowance - over);
                 }
                 left = over;

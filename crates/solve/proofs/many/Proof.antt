@@ -1,10 +1,8 @@
 -- `solve::many` meets its contract. The loop's invariant: what the solves still to go come to with the readings left is what all of them come to.
-use mathlib.Core.Path.{refl, sym, _∙_}
-use mathlib.Core.Logic.{⊎-elim}
+use mathlib.Core.Path.{refl, _∙_}
 use Prim.Native.Nat.{_-_}
 use native.Mathlib.Omega.{arith}
 use borrow.Author.Needs.{needs}
-use borrow.Author.Tests.{not-true, not-false}
 use denote.Ref.{now}
 use Rattle.rows.specs.Constants.{lpBound, lpBoxGrowth}
 use Rattle.rows.specs.Rows.{rowsOf}
@@ -24,9 +22,6 @@ loop-holds c =
     let a = c .before .args in
     record { even = omega arith; few = omega arith; enough = omega arith; again = refl; rest = from-all (a .task) (a .allowance) (rowsOf (now (a .rows))) }
 
-widened-requires : tie.Need-widened-requires Inv-loop μ-loop
-widened-requires c κs = search needs
-
 solve-once-requires : tie.Need-solve-once-requires Inv-loop μ-loop
 solve-once-requires c κs = search needs
 
@@ -39,10 +34,9 @@ same-length c = search needs
 returns : tie.Need-returns Inv-loop μ-loop
 returns c =
     let round = c .before .before .before .before in
-    let l = round .before .before .before .loop .inv in
-    let wide = round .before .before .widened .ensures in
+    let l = round .before .before .loop .inv in
     let solved = round .solve-once .ensures in
-    turn (omega arith) l (solved .1) (omega arith) wide (solved .0) (c .enum-told .given .1)
+    turn (omega arith) l (solved .1) (omega arith) (solved .0) (c .enum-told .given .1)
 
 enum-known-got : tie.Need-enum-known-got Inv-loop μ-loop
 enum-known-got c = search needs
@@ -50,10 +44,9 @@ enum-known-got c = search needs
 sub-answered : tie.Need-sub-answered Inv-loop μ-loop
 sub-answered c =
     let round = c .before .before .before .before .before in
-    let l = round .before .before .before .loop .inv in
-    let wide = round .before .before .widened .ensures in
+    let l = round .before .before .loop .inv in
     let solved = round .solve-once .ensures in
-    omega (arith, turn (omega arith) l (solved .1) (omega arith) wide (solved .0) (c .before .got .given .1) .0)
+    omega (arith, turn (omega arith) l (solved .1) (omega arith) (solved .0) (c .before .got .given .1) .0)
 
 answered-requires : tie.Need-answered-requires Inv-loop μ-loop
 answered-requires c κs = search needs
@@ -64,25 +57,20 @@ same-length-2 c = search needs
 returns-2 : tie.Need-returns-2 Inv-loop μ-loop
 returns-2 c =
     let round = c .before .before .before .before .before .before in
-    let l = round .before .before .before .loop .inv in
-    let wide = round .before .before .widened .ensures in
+    let l = round .before .before .loop .inv in
     let solved = round .solve-once .ensures in
-    let ends = turn (omega arith) l (solved .1) (omega arith) wide (solved .0) (c .before .before .got .given .1) .1 in
+    let ends = turn (omega arith) l (solved .1) (omega arith) (solved .0) (c .before .before .got .given .1) .1 in
     (c .answered .ensures ∙ ends .0, ends .1)
 
 enum-known-got-2 : tie.Need-enum-known-got-2 Inv-loop μ-loop
 enum-known-got-2 c = search needs
 
-is-saturated-requires : tie.Need-is-saturated-requires Inv-loop μ-loop
-is-saturated-requires c κs = search needs
-
 sub-answered-2 : tie.Need-sub-answered-2 Inv-loop μ-loop
 sub-answered-2 c =
     let round = c .before .before .before .before .before .before in
-    let l = round .before .before .before .loop .inv in
-    let wide = round .before .before .widened .ensures in
+    let l = round .before .before .loop .inv in
     let solved = round .solve-once .ensures in
-    omega (arith, turn (omega arith) l (solved .1) (omega arith) wide (solved .0) (c .before .before .got2 .given .1) .0)
+    omega (arith, turn (omega arith) l (solved .1) (omega arith) (solved .0) (c .before .before .got2 .given .1) .0)
 
 answered-requires-2 : tie.Need-answered-requires-2 Inv-loop μ-loop
 answered-requires-2 c κs = search needs
@@ -93,12 +81,9 @@ same-length-3 c = search needs
 returns-3 : tie.Need-returns-3 Inv-loop μ-loop
 returns-3 c =
     let round = c .before .before .before .before .before .before .before in
-    let l = round .before .before .before .loop .inv in
-    let wide = round .before .before .widened .ensures in
+    let l = round .before .before .loop .inv in
     let solved = round .solve-once .ensures in
-    let after = turn (omega arith) l (solved .1) (omega arith) wide (solved .0) (c .before .before .before .got2 .given .1) in
-    let ends =
-    ⊎-elim (λ w. after .1 (omega (arith, l .few))) (λ w. after .2 (rw wide at (sym (w .1 .ensures) ∙ not-true _ (w .2 .taken)))) (c .before .if1 .came) in
+    let ends = turn (omega arith) l (solved .1) (omega arith) (solved .0) (c .before .before .before .got2 .given .1) .1 (omega (arith, l .few)) in
     (c .answered2 .ensures ∙ ends .0, ends .1)
 
 add-k : tie.Need-add-k Inv-loop μ-loop
@@ -110,12 +95,10 @@ loop-less c = search needs
 loop-again : tie.Need-loop-again Inv-loop μ-loop
 unfolding lpBoxGrowth
 loop-again c =
-    let round = c .before .before .before .before .before .before .before .before in
-    let l = round .before .before .before .loop .inv in
-    let wide = round .before .before .widened .ensures in
+    let round = c .before .before .before .before .before .before in
+    let l = round .before .before .loop .inv in
     let solved = round .solve-once .ensures in
-    let on = rw wide at (sym (c .before .is-saturated .ensures) ∙ not-false _ (c .if2 .left)) in
-    turn (omega arith) l (solved .1) (omega arith) wide (solved .0) (c .before .before .before .before .got2 .given .1) .3 (omega arith) on
+    turn (omega arith) l (solved .1) (omega arith) (solved .0) (c .before .before .got2 .given .1) .2 (omega (arith, l .few))
 
 pub many-spec : {M : Type 1} → statement M
 many-spec =
@@ -124,7 +107,6 @@ many-spec =
     Inv-loop
     μ-loop
     loop-holds
-    widened-requires
     solve-once-requires
     enum-told
     same-length
@@ -135,7 +117,6 @@ many-spec =
     same-length-2
     returns-2
     enum-known-got-2
-    is-saturated-requires
     sub-answered-2
     answered-requires-2
     same-length-3
