@@ -2,7 +2,7 @@
 -- returns what the last of the solves found. So they are seven at most, and only the seventh may sit on its box and be the last.
 use mathlib.Core.Path.{_≡_, refl, ap}
 use mathlib.Core.Logic.{_⊎_, inl, inr, ⊎-map}
-use mathlib.Core.Bool.{Bool, true, false, not, _||_}
+use mathlib.Core.Bool.{false, not, _||_, or-true}
 use mathlib.Core.List.{List}
 use Prim.Native.Nat.{ℕ, zero, suc, _+_, _≤_}
 use native.Mathlib.Omega.{arith}
@@ -37,16 +37,12 @@ looping (suc n) step T rows bound =
 unfoldable pub loop : Task → List Row → Left
 loop T rows = looping (lpBoxGrowthSteps + 1) 0 T rows lpBound
 
-either-way : (b : Bool) → b || true ≡ true
-either-way true = refl
-either-way false = refl
-
 -- from any step on, with the growths that it leaves
 from-step : (T : Task) (k step : ℕ) (rows : List Row) (bound : Float) → k + step ≡ lpBoxGrowthSteps
     → looping (suc k) step T rows bound ≡ returned (lastOf (solves k T rows bound))
 unfolding looping lastOf if_then_else_
 from-step T zero step rows bound e =
-    rw (eq-eqb step lpBoxGrowthSteps (omega arith), either-way (not (once T rows bound .saturated)), ends T rows bound 0 (inl refl))
+    rw (eq-eqb step lpBoxGrowthSteps (omega arith), or-true (not (once T rows bound .saturated)), ends T rows bound 0 (inl refl))
 from-step T (suc k) step rows bound e =
     by-box T rows bound (λ os. looping (suc (suc k)) step T rows bound ≡ returned (lastOf os)) k
     (λ off. rw off)

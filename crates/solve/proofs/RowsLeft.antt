@@ -61,13 +61,13 @@ pub record LastToFit (left : ℕ) (os : Solves) (j : ℕ) : Type 0 where
   pub fits : takenUpTo j os ≤ left
   pub no-later : (k : ℕ) → j < k → k ≤ rounds os → left < takenUpTo k os
 
-module _ (left : ℕ) where
-  first-taken : (j : ℕ) (os : Solves) → firstOf os .rows .readings ≤ takenUpTo (suc j) os
-  unfolding takenUpTo
-  first-taken j (last o) = omega arith
-  first-taken zero (o before os) = omega arith
-  first-taken (suc j) (o before os) = omega arith
+first-taken : (j : ℕ) (os : Solves) → firstOf os .rows .readings ≤ takenUpTo (suc j) os
+unfolding takenUpTo
+first-taken j (last o) = omega arith
+first-taken zero (o before os) = omega arith
+first-taken (suc j) (o before os) = omega arith
 
+module _ (left : ℕ) where
   none-fits : (os : Solves) → left < firstOf os .rows .readings → LastToFit left os 0
   unfolding takenUpTo
   none-fits os short = record { there = omega arith; fits = omega arith; no-later = later }
