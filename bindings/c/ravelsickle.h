@@ -36,7 +36,7 @@ extern "C" {
 /* A start level that means "beyond the set": a solve that begins there may move up to the edge of a larger box. */
 #define RAVELSICKLE_BEYOND 1e6
 
-/* Why an entry gives no answer; 0 is no refusal. */
+/* Why an entry gives no answer; 0 is no refusal. The number 4 was one that could not come, and is not used again. */
 enum ravelsickle_refusal {
     RAVELSICKLE_DONE = 0,
     /* The floats lent are no whole rows (3 to a row), or no whole pairs (2 to a pair). Rows are unchanged. */

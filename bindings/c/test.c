@@ -92,7 +92,6 @@ static bool has_refusal(enum ravelsickle_refusal number) {
     return false;
 }
 
-/* The number 4 was that of a refusal which could not come, and is not used again. */
 static void test_no_refusal_is_4(void) {
     CHECK(has_refusal((enum ravelsickle_refusal)3) && has_refusal((enum ravelsickle_refusal)5));
     CHECK(!has_refusal((enum ravelsickle_refusal)4));

@@ -151,6 +151,7 @@ class Refusal(Exception):
         return Refusal, (self.number, self.count)
 
 
+# The number 4 was that of a refusal which could not come, and is not used again.
 _REASONS = {
     1: "the floats lent are no whole rows or pairs",
     2: f"more than {ROW_LIMIT} rows or pairs",

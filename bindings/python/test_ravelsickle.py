@@ -231,7 +231,6 @@ class SmallEntries(Checked):
         self.assertEqual(str(Refusal(99)), "refusal 99: a number that this module does not know")
 
     def test_no_refusal_has_the_number_4(self):
-        """It was that of a refusal which could not come, and is not used again."""
         self.assertEqual(str(Refusal(4)), "refusal 4: a number that this module does not know")
 
     def test_a_pickled_refusal_comes_back_as_it_was(self):

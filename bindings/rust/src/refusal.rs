@@ -3,7 +3,7 @@
 use std::error::Error;
 use std::fmt;
 
-/// Why an entry gave no answer.
+/// Why an entry gave no answer. The number 4 was that of a refusal which could not come, and is not used again.
 #[derive(Clone, Copy, Debug, PartialEq, Eq)]
 #[non_exhaustive]
 pub enum Refusal {
@@ -112,7 +112,6 @@ mod tests {
         assert_eq!(Refusal::check(8, 9), Err(Refusal::Unknown(8)));
     }
 
-    /// The number 4 was that of a refusal which could not come, and is not used again.
     #[test]
     fn no_refusal_has_the_number_4() {
         assert_eq!(Refusal::check(4, 9), Err(Refusal::Unknown(4)));

@@ -1,5 +1,5 @@
--- What is said of the entries in words and is no equation of their contracts: that a row's flag is true exactly where there is a row, and when refusal 10 is
--- given and what it leaves. Of a task t and the floats or rows lent the entries answer `solved (solving t flat .outcome)`,
+-- What is said of the entries in words and is no equation of their contracts: that a row's flag is true exactly where there is a row, when refusal 10 is given
+-- and what it leaves, and which numbers a solve gives. Of a task t and the floats or rows lent the entries answer `solved (solving t flat .outcome)`,
 -- `solved (solvingRows t rows .outcome)` and `source (silent (solvingSource t flat .outcome))`.
 use mathlib.Core.Path.{_≡_, refl}
 use mathlib.Core.Bool.{Bool, true, false, not}
