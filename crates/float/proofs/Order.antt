@@ -16,6 +16,14 @@ use lib.Ieee.Fits.{down-pos}
 pub not-both : {b : Bool} → b ≡ false → b ≡ true → ⊥
 not-both h k = false≢true (sym h ∙ k)
 
+pub refuted : {b : Bool} → (b ≡ true → ⊥) → b ≡ false
+refuted {b = true} f = absurd (f refl)
+refuted {b = false} f = refl
+
+pub neither : (a b : Bool) → a || b ≡ false → (a ≡ false) × (b ≡ false)
+neither true b h = absurd (true≢false h)
+neither false b h = (refl, h)
+
 -- ---- `<` of finite numbers as `<` of natural numbers, whatever the signs
 
 -- ±a is plus - minus

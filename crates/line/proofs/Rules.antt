@@ -1,13 +1,15 @@
 -- `lp_1d` answers with an infinity at an end that no pair bounds. Assumes nothing.
-use mathlib.Core.Path.{_≡_, refl, ap, _∙_}
-use mathlib.Core.Bool.{Bool, true, false, not}
+use mathlib.Core.Path.{_≡_, refl, sym, ap, _∙_}
+use mathlib.Core.Logic.{⊎-elim}
+use mathlib.Core.Bool.{Bool, true, false, not, true≢false}
 use mathlib.Core.List.{List, [], _∷_}
 use Prim.Native.Nat.{ℕ, _+_}
 use borrow.Author.Tests.{eq-eqb}
 use lib.ListN.{length}
-use lib.Ieee.{Float, nan, inf, fin, neg, ofBits, add, mul, lt, le, isNan}
+use lib.Ieee.{Float, nan, inf, fin, neg, ofBits, add, mul, lt, le}
 use Rattle.float.specs.Operators.{if_then_else_, _⊗_, _⊘_, _≺_, _≻_}
-use Rattle.float.specs.Float.{zero, abs, max}
+use Rattle.float.specs.Float.{zero, abs, max, _⋖_}
+use Rattle.float.proofs.Laws.{max-picks}
 use Rattle.readings.specs.Readings.{pure, _>>_}
 use Rattle.readings.proofs.Gives.{either}
 use Rattle.rows.specs.Constants.{epsRounding}
@@ -39,11 +41,14 @@ abbrev end : Bool → Span → Float
 end up s = if up then s .high else s .low
 
 above-all : (x : Float) → max x (inf false) ≡ inf false
-unfolding max isNan lt if_then_else_
-above-all nan = refl
-above-all (inf true) = refl
-above-all (inf false) = refl
-above-all (fin s m e) = refl
+unfolding _⋖_ lt
+above-all x = ⊎-elim (λ e. e ∙ highest x e (rw e at (max-picks .none-before x (inf false) .1))) (λ e. e) (max-picks .one-of-two x (inf false))
+  where
+    highest : (x : Float) → max x (inf false) ≡ x → x ⋖ inf false ≡ false → x ≡ inf false
+    highest nan e h = sym e ∙ max-picks .past-nan-left (inf false)
+    highest (inf true) e h = absurd (true≢false h)
+    highest (inf false) e h = refl
+    highest (fin s m e) e′ h = absurd (true≢false h)
 
 module _ (ε : Float) where
   holds-narrows : (k : ℕ) (t : Term) (s : Span) → Holds ε t → narrow false ε k t s ≡ Kept s

@@ -1,7 +1,7 @@
 -- The deferred scan for the worst row, turn by turn.
-use mathlib.Core.Path.{_≡_, refl, sym, ap, _∙_}
+use mathlib.Core.Path.{_≡_, sym, ap, _∙_}
 use mathlib.Core.Logic.{⊎-elim}
-use mathlib.Core.Bool.{Bool, true, false, not, _||_, true≢false}
+use mathlib.Core.Bool.{true, false, not, _||_}
 use mathlib.Core.List.{List, _∷_}
 use Prim.Native.Nat.{ℕ, _+_, _-_, _*_, _≤_, _<_}
 use native.Mathlib.Omega.{arith}
@@ -10,7 +10,7 @@ use lib.ListN.{length, drop}
 use lib.Ieee.{Float, lt}
 use Rattle.float.specs.Operators.{if_then_else_, _⊗_, _≼_, _≻_}
 use Rattle.float.specs.Float.{zero}
-use Rattle.float.proofs.Order.{not-above, lt-asym}
+use Rattle.float.proofs.Order.{neither, not-above, lt-asym}
 use Rattle.float.proofs.Laws.{max-picks, above-size, above-no-size}
 use Rattle.float.proofs.Signs.{difference-not-positive}
 use Rattle.readings.specs.Readings.{Paid, within}
@@ -27,10 +27,6 @@ use Rattle.passes.specs.Passes.{excess, worst, scanned}
 use Rattle.passes.proofs.Sizes.{rounding-not-negative}
 
 -- ---- an excess above zero
-
-neither : (a b : Bool) → a || b ≡ false → (a ≡ false) × (b ≡ false)
-neither true b h = absurd (true≢false h)
-neither false b h = (refl, h)
 
 excess-not-positive : (ε : Float) (r : Row) (p : Point) → residual r p ≻ zero || not (zero ≼ ε) ≡ false → excess ε r p ≻ zero ≡ false
 unfolding excess

@@ -1,11 +1,12 @@
 -- What a refusal by a record's header tells of the body's length, and that no normalise byte makes a refused record one to solve. Assumes nothing.
 use mathlib.Core.Path.{_≡_, refl}
-use mathlib.Core.Bool.{Bool, true, false, not, _||_, true≢false}
+use mathlib.Core.Bool.{Bool, true, false, not, _||_}
 use Prim.Native.Nat.{ℕ, _-_, _*_, _/_, _%_, _≤_}
 use native.Mathlib.Omega.{arith}
 use lib.Dec.{eqb, ltb}
 use borrow.Author.Tests.{ltb-false, eqb-true, not-false}
 use Rattle.float.specs.Operators.{if_then_else_}
+use Rattle.float.proofs.Order.{neither}
 use Rattle.record.specs.Sizes.{fieldBytes, rowBytes, recordRows, mostFloats}
 use Rattle.record.specs.Record.{refusal}
 
@@ -26,10 +27,6 @@ unfolding if_then_else_
 was-2 true b c e = absurd (omega arith)
 was-2 false true c e = absurd (omega arith)
 was-2 false false c e = refl
-
-neither : (a b : Bool) → (a || b) ≡ false → (a ≡ false) × (b ≡ false)
-neither true b e = absurd (true≢false e)
-neither false b e = (refl, e)
 
 -- the second test is made of two, of which the other one fails
 without : (a b x c : Bool) → chosen a (b || x) c ≡ 0 → chosen a (b || false) c ≡ 0

@@ -1,12 +1,12 @@
 -- Worked examples of the definitions: one table under one statement, which is proved by computing every line. S1 to F1 are those of
--- RULES 13; M1 and M2 show two mistakes that those do not.
+-- RULES 13; M1 and M2 show two mistakes that those do not, and Z1 the order of zeros.
 use mathlib.Core.Path.{_≡_, refl}
 use mathlib.Core.Bool.{Bool, true, false}
 use mathlib.Core.List.{List, [], _∷_}
 use Prim.Native.Nat.{ℕ, _^_}
 use lib.Ieee.{Float, nan, binary64, round, ofBits, neg, add, sub, mul, div, lt, le, eq, isNan}
 use Rattle.float.specs.Operators.{if_then_else_}
-use Rattle.float.specs.Float.{zero, one, abs, finite, min, max, clamp}
+use Rattle.float.specs.Float.{zero, one, abs, finite, negative, _⋖_, min, max, clamp}
 use Rattle.rounding.specs.Root.{root, rootUnits, wholeRoot}
 use Rattle.rounding.specs.Fused.{fused, product}
 use Rattle.readings.specs.Readings.{pure, read, _>>=_, _>>_}
@@ -38,6 +38,7 @@ use Rattle.passes.specs.Passes.{violated, frame, secondTry, repair, afterTrial,
 use Rattle.solve.specs.Once.{prepared, widened, begun, passes, saturated, onBox, lone, many, once}
 use Rattle.solve.specs.Solve.{solves, allSolves, lastOf, count, rowsWithin, answer, activeRows, answered, finished, allowed, refusalOf, taken, solve}
 
+infixr 10 _⊹_
 -- ---- how a line is written
 
 -- a float by its bits, and a whole number. (An expected value is never written by `num`: two calls of `round` would be compared.)
@@ -103,6 +104,10 @@ rows₅ = rowOf (-num 1) (num 0) (num 0) ∷ rowOf (num 1) (num 0) (num 1) ∷ [
 abbrev trial-rows : List Row
 trial-rows = rowOf (num 0) (num 1) (num 5) ∷ zeros ∷ rowOf (num 1) (num 0) (neg half) ∷ []
 
+-- the first row's boundary is at +0; a step of the second takes the lesser of that and the start's y
+abbrev zero-rows : List Row
+zero-rows = rowOf (num 0) (num 1) (num 0) ∷ rowOf (num 1) (num 0) (-num 1) ∷ []
+
 abbrev pub examples : List Example
 examples =
     solving (from lpBound) 1000 [] Nothing NoRow NoRow 0 ∷  -- S1
@@ -124,11 +129,16 @@ examples =
     fusing (f64 0x3ff0_0000_0040_0000) (f64 0x3ff0_0000_0040_0000) (-num 1) (f64 0x3e20_0000_0020_0000) ∷  -- F1
     solving (task epsZero (num 10) lpBound Source) 1000 rows₅ (Point zero (f64 0x44ea_7843_79d9_9db4)) NoRow NoRow 42 ∷  -- M1: seven normalisations
     solving (task one (-num 1) zero Off) 1000 trial-rows (Point zero zero) NoRow NoRow 31 ∷  -- M2: a failed trial leaves no index
+    solving (from (neg zero)) 1000 zero-rows (Point (f64 0xbff0_0000_0000_0000) (f64 0x8000_0000_0000_0000)) (Holds 0) (Holds 1) 6 ∷  -- Z1: -0 is below +0
     []
+
+-- a line that holds, and the lines behind it
+abbrev _⊹_ : {A B : Type 0} → A → B → A × B
+a ⊹ b = (a, b)
 
 pub examples-hold : All examples
 unfolding
-    if_then_else_ zero one abs finite min max clamp root rootUnits wholeRoot fused product pure read _>>=_ _>>_ epsZero epsNormalize epsRounding
+    if_then_else_ zero one abs finite negative _⋖_ min max clamp root rootUnits wholeRoot fused product pure read _>>=_ _>>_ epsZero epsNormalize epsRounding
     ccwErrboundA lpBound lpBoxGrowth half repairTolScale zeros rowsOf flatOf rowAt refusal residual weight noBoundary normalizedBy normalizedRow
     normalized determinant singular crossing noRows setFirst setSecond wholeLine void coefficientIsZero narrow meeting lp1dCore onY onX onLine pairsOf
     lp1d onward _>>?_ steepEnd steepStep uncrossed chosen flatEnd flatStep step every meets notAbove works firstThatWorks bounded cut interval
@@ -137,4 +147,5 @@ unfolding
     afterTrial pivot forward excess worst none deferred prepared widened begun passes saturated onBox lone many once solves allSolves lastOf count rowsWithin
     answer activeRows answered finished allowed refusalOf taken solve round neg add sub mul div lt le eq isNan ofBits
 examples-hold =
-    (refl, (refl, (refl, (refl, (refl, (refl, (refl, (refl, (refl, (refl, (refl, (refl, (refl, (refl, (refl, (refl, (refl, (refl, (refl, tt)))))))))))))))))))
+    refl ⊹ refl ⊹ refl ⊹ refl ⊹ refl ⊹ refl ⊹ refl ⊹ refl ⊹ refl ⊹ refl ⊹
+    refl ⊹ refl ⊹ refl ⊹ refl ⊹ refl ⊹ refl ⊹ refl ⊹ refl ⊹ refl ⊹ refl ⊹ tt
