@@ -3,6 +3,7 @@ pub mod Itself
 pub mod Order
 pub mod Laws
 pub mod Zeros
+pub mod Joined
 pub mod Demands
 pub mod Signs
 pub mod One

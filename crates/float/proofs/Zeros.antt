@@ -3,10 +3,10 @@
 use mathlib.Core.Path.{_≡_, refl, sym, ap, _∙_}
 use mathlib.Core.Bool.{Bool, true, false, cond, not, _&&_, _||_, Bool·beq, true≢false, false≢true, and-eq-true-iff, or-true, or-false}
 use Prim.Native.Nat.{ℕ, zero, suc, _+_, _*_, _^_, _<_}
-use native.Mathlib.Nat.{zero-lt-suc, add-zero, zero-mul, mul-pos, le-of-eq, le-antisymm}
+use native.Mathlib.Nat.{zero-lt-suc, add-zero, zero-mul, mul-pos, le-antisymm}
 use native.Mathlib.Omega.{arith}
-use borrow.Author.Tests.{ltb-false, le-ltb, eqb-true, eq-eqb, not-true}
-use lib.Dec.{T, ltb, eqb}
+use borrow.Author.Tests.{ltb-false, eqb-true, eq-eqb, not-true}
+use lib.Dec.{T, eqb}
 use lib.IntN.{ℤ}
 use lib.Ieee.{Float, nan, inf, fin, binary64, up, down, size, round, below, level, lt, eq, le, isNan, fits, toBits}
 use lib.Ieee.Fits.{down-pos}
@@ -54,7 +54,7 @@ bits-of-zero s m e k p h =
     let none = factor-vanishes (m * up e) k p h in
     bits-of-value (fin s m e) s 0 (refl, rw (none, zero-mul (2 ^ 1074), zero-mul (down e))) ∙ simp add-zero
 
-zeros-of-both-signs : (x y : Float) → x ≈ y ≡ true → negative y ≡ not (negative x)
+pub zeros-of-both-signs : (x y : Float) → x ≈ y ≡ true → negative y ≡ not (negative x)
     → (toBits binary64 x ≡ cond (negative x) (2 ^ 63) 0) × (toBits binary64 y ≡ cond (negative y) (2 ^ 63) 0)
 unfolding eq negative
 zeros-of-both-signs nan y h k = absurd (false≢true h)
@@ -71,20 +71,6 @@ zeros-of-both-signs (fin s m e) (fin t n d) h k =
     let as-much = equal-sizes s (m * up e * down d) t (n * up d * down e) h in
     (bits-of-zero s m e (down d) (down-pos d) none, bits-of-zero t n d (down e) (down-pos e) (sym as-much ∙ none))
 
--- so the bits of two that are equal tell zeros apart
-bits-tell-signs : (x y : Float) → T (fits binary64 x) → T (fits binary64 y) → x ≈ y ≡ true
-    → ltb (toBits binary64 y) (toBits binary64 x) ≡ negative x && not (negative y)
-bits-tell-signs x y p q h = by-signs (negative x) (negative y) refl refl
-  where
-    same : negative x ≡ negative y → ltb (toBits binary64 y) (toBits binary64 x) ≡ false
-    same k = let one = one-of-sign x y p q h k in le-ltb (toBits binary64 y) (toBits binary64 x) (le-of-eq (ap (toBits binary64) one))
-
-    by-signs : (s t : Bool) → negative x ≡ s → negative y ≡ t → ltb (toBits binary64 y) (toBits binary64 x) ≡ s && not t
-    by-signs true true s t = same (s ∙ sym t)
-    by-signs false false s t = same (s ∙ sym t)
-    by-signs true false s t = let bits = zeros-of-both-signs x y h (rw (s, t)) in rw (bits .0, bits .1, s, t)
-    by-signs false true s t = let bits = zeros-of-both-signs x y h (rw (s, t)) in rw (bits .0, bits .1, s, t)
-
 -- ---- equal, or one below the other
 
 level-back : (s : Bool) (a : ℕ) (t : Bool) (b : ℕ) → level s a t b ≡ true → level t b s a ≡ true
@@ -97,7 +83,7 @@ level-back false a true b h =
     let as-much = equal-sizes false a true b h in
     rw (eq-eqb b a (sym as-much), eq-eqb b 0 (sym as-much ∙ opposed-vanishes false true a b h refl))
 
-equal-back : (x y : Float) → x ≈ y ≡ true → y ≈ x ≡ true
+pub equal-back : (x y : Float) → x ≈ y ≡ true → y ≈ x ≡ true
 unfolding eq
 equal-back nan y h = absurd (false≢true h)
 equal-back (inf s) nan h = absurd (false≢true h)
@@ -110,14 +96,11 @@ equal-back (fin s m e) nan h = absurd (false≢true h)
 equal-back (fin s m e) (inf t) h = absurd (false≢true h)
 equal-back (fin s m e) (fin t n d) h = level-back s (m * up e * down d) t (n * up d * down e) h
 
-pub equal-no-nan : (x y : Float) → x ≈ y ≡ true → (isNan x ≡ false) × (isNan y ≡ false)
+pub equal-number : (x y : Float) → x ≈ y ≡ true → isNan x ≡ false
 unfolding eq isNan
-equal-no-nan x y h = (left x y h, left y x (equal-back x y h))
-  where
-    left : (x y : Float) → x ≈ y ≡ true → isNan x ≡ false
-    left nan y h = absurd (false≢true h)
-    left (inf s) y h = refl
-    left (fin s m e) y h = refl
+equal-number nan y h = absurd (false≢true h)
+equal-number (inf s) y h = refl
+equal-number (fin s m e) y h = refl
 
 equal-not-above : (x y : Float) → x ≈ y ≡ true → y ≺ x ≡ false
 unfolding le
@@ -151,14 +134,14 @@ neither-below (fin s m e) (fin t n d') c d h k = sizes-level s (m * up e * down 
 
 -- ---- the order in which -0 is below +0
 
--- `<` decides it for numbers that are not equal, and the bits for those that are
-pub unequal-by-value : (x y : Float) → x ≈ y ≡ false → x ≺ y ≡ x ⋖ y
+-- `<` decides between numbers that are not equal, and the signs between those that are
+pub unequal-below : (x y : Float) → x ≈ y ≡ false → x ⋖ y ≡ x ≺ y
 unfolding _⋖_
-unequal-by-value x y h = rw h (sym (or-false (x ≺ y)))
+unequal-below x y h = rw h (or-false (x ≺ y))
 
-pub equal-by-bits : (x y : Float) → T (fits binary64 x) → T (fits binary64 y) → x ≈ y ≡ true → ltb (toBits binary64 y) (toBits binary64 x) ≡ x ⋖ y
+pub equal-below : (x y : Float) → x ≈ y ≡ true → x ⋖ y ≡ negative x && not (negative y)
 unfolding _⋖_
-equal-by-bits x y p q h = rw (h, equal-not-below x y h) (bits-tell-signs x y p q h)
+equal-below x y h = rw (h, equal-not-below x y h)
 
 pub nan-below-none : (y : Float) → nan ⋖ y ≡ false
 unfolding _⋖_ lt eq

@@ -3,7 +3,7 @@
 ghost use mathlib.Core.Path.{_≡_};
 ghost use mathlib.Core.Bool.{false};
 ghost use lib.Ieee as Ieee;
-ghost use Rattle.float.specs.Float.{abs, finite, _⋖_, min, max, clamp};
+ghost use Rattle.float.specs.Float.{abs, finite, min, max, clamp};
 
 pub fn infinity() -> f64
     ensures { λ r. ⌜ r ≡ Ieee.inf false ⌝ }
@@ -39,28 +39,26 @@ pub fn is_finite(x: f64) -> bool
     abs(x) < infinity()
 }
 
-// Whether x is below y where -0 is below +0. Numbers that are equal have the same bits, but for zeros of both signs, and the bits of -0
-// are the greater. Where the result is selected by, the built code has no branch.
-fn below(x: f64, y: f64) -> bool
-    ensures { λ r. ⌜ r ≡ x ⋖ y ⌝ }
-{
-    if x == y {
-        f64::to_bits(x) > f64::to_bits(y)
-    } else {
-        x < y
-    }
-}
-
+// Numbers that are equal have the same bits, but for zeros of both signs. Joined by `|` those are the bits of -0, and by `&` those of +0. The
+// built code branches to that only where the two are equal; which one it gives otherwise it selects without a branch.
 pub fn min(x: f64, y: f64) -> f64
     ensures { λ r. ⌜ r ≡ min x y ⌝ }
 {
-    if x != x || below(y, x) { y } else { x }
+    if x == y {
+        float_of(bits_of(x) | bits_of(y))
+    } else {
+        if x != x || y < x { y } else { x }
+    }
 }
 
 pub fn max(x: f64, y: f64) -> f64
     ensures { λ r. ⌜ r ≡ max x y ⌝ }
 {
-    if x != x || below(x, y) { y } else { x }
+    if x == y {
+        float_of(bits_of(x) & bits_of(y))
+    } else {
+        if x != x || x < y { y } else { x }
+    }
 }
 
 pub fn clamp(x: f64, low: f64, high: f64) -> f64

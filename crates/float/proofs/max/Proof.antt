@@ -1,22 +1,48 @@
--- `float::max` meets its contract: the code tests for a NaN by `x != x`. Assumes nothing.
+-- `float::max` meets its contract: of two that are equal by their bits, and of others by `<`, after a test for a NaN by `x != x`. Assumes nothing.
+use mathlib.Core.Path.{sym, subst, _∙_}
 use mathlib.Core.Logic.{⊎-elim}
 use borrow.Author.Needs.{needs}
+use lib.Dec.{T}
 use Rattle.float.specs.Operators.{if_then_else_}
-use Rattle.float.specs.Float.{max}
 use Rattle.float.proofs.Nans.{nan-test}
+use Rattle.float.proofs.Joined.{greatest-of-equal, greatest-of-unequal}
 use Rattle.float.proofs.max.Statement.{statement}
 use Rattle.float.proofs.max.Tie as tie
 
-below-requires : tie.Need-below-requires
-below-requires c κs = search needs
+bits-of-requires : tie.Need-bits-of-requires
+bits-of-requires c κs = search needs
+
+bits-of-requires-2 : tie.Need-bits-of-requires-2
+bits-of-requires-2 c κs = search needs
+
+float-of-requires : tie.Need-float-of-requires
+float-of-requires c κs = search needs
 
 returns : tie.Need-returns
-unfolding max if_then_else_
-returns c = ⊎-elim (λ w. simp (nan-test, w .0 .taken)) (λ w. simp (nan-test, w .0 .left, ← w .1 .ensures, ← w .2, c .if2 .taken)) (c .before .if1 .came)
+returns c =
+    let bits = c .before in
+    let equal = bits .before .before in
+    let a = equal .before .args in
+    let good = equal .before .good in
+    c .float-of .ensures
+    ∙ rw (bits .before .bits-of .ensures, bits .bits-of2 .ensures)
+    (greatest-of-equal (a .x) (a .y) (subst T (sym (good .0 .1)) tt) (subst T (sym (good .1 .0 .1)) tt) (equal .if1 .taken))
 
 returns-2 : tie.Need-returns-2
-unfolding max if_then_else_
-returns-2 c = ⊎-elim (λ w. cc) (λ w. simp (nan-test, w .0 .left, ← w .1 .ensures, ← w .2, c .if2 .left)) (c .before .if1 .came)
+unfolding if_then_else_
+returns-2 c =
+    let unequal = c .before .before in
+    let a = unequal .before .args in
+    rw (← greatest-of-unequal (a .x) (a .y) (unequal .if1 .left))
+    (⊎-elim (λ w. simp (nan-test, w .0 .taken)) (λ w. simp (nan-test, w .0 .left, ← w .1, c .if3 .taken)) (c .before .if2 .came))
+
+returns-3 : tie.Need-returns-3
+unfolding if_then_else_
+returns-3 c =
+    let unequal = c .before .before in
+    let a = unequal .before .args in
+    rw (← greatest-of-unequal (a .x) (a .y) (unequal .if1 .left))
+    (⊎-elim (λ w. cc) (λ w. simp (nan-test, w .0 .left, ← w .1, c .if3 .left)) (c .before .if2 .came))
 
 pub max-spec : {M : Type 1} → statement M
-max-spec = tie.close (tie.spec below-requires returns returns-2)
+max-spec = tie.close (tie.spec bits-of-requires bits-of-requires-2 float-of-requires returns returns-2 returns-3)
