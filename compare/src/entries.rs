@@ -3,9 +3,8 @@
 use std::panic::{AssertUnwindSafe, catch_unwind};
 
 use crate::batch::{self, Kind};
-use crate::counted;
 use crate::kernel::{Call, Kernel};
-use crate::original::{self, Recovered, Recovery};
+use crate::original::{COUNTED, Recovered, Recovery, UNMODIFIED};
 use crate::records::{LineSetting, Pair, Record, RecoveredPoint};
 use crate::report::{Verdict, differs_on_line, hex, hex_all, row_text};
 use crate::rng::Rng;
@@ -36,7 +35,7 @@ pub(crate) fn judge_normalize(rows: &[Row], calls: &[Call]) -> Result<(), String
         return Err("not a call of normalising".to_string());
     };
     let mut wanted = rows.to_vec();
-    original::normalize(&mut wanted);
+    UNMODIFIED.normalize(&mut wanted);
     if *refusal == 0 && same_settled(&flat(&wanted), got) {
         return Ok(());
     }
@@ -98,7 +97,7 @@ fn judge_two(first: Row, second: Row, calls: &[Call]) -> Result<(), String> {
     let [Call::Two { out, .. }] = calls else {
         return Err("not a call of the system".to_string());
     };
-    let wanted = original::solve_2x2(first, second);
+    let wanted = UNMODIFIED.solve_2x2(first, second);
     if same_pair(wanted, 5, out) {
         return Ok(());
     }
@@ -185,13 +184,11 @@ impl Line {
         let [Call::Line { out, .. }] = calls else {
             return Err("not a call of lp_1d".to_string());
         };
-        let feasibility = values::as_original_takes_it(self.setting.feasibility);
-        let wanted = original::lp_1d(
-            &self.pairs,
-            self.setting.autonan,
-            feasibility,
-            self.setting.scale,
-        );
+        let setting = LineSetting {
+            feasibility: values::as_original_takes_it(self.setting.feasibility),
+            ..self.setting
+        };
+        let wanted = UNMODIFIED.lp_1d(&self.pairs, &setting);
         if same_pair(Some(wanted), 0, out) {
             return Ok(());
         }
@@ -315,9 +312,9 @@ fn original_recovery(rows: &[Row], given: &Recovery) -> Result<Option<Recovered>
         reduced: values::as_original_takes_it(given.reduced),
         ..*given
     };
-    let wanted = catch_unwind(AssertUnwindSafe(|| original::recover(rows, given)))
+    let wanted = catch_unwind(AssertUnwindSafe(|| UNMODIFIED.recover(rows, given)))
         .map_err(|_| "the original panicked".to_string())?;
-    let counted = counted::recover(rows, given);
+    let counted = COUNTED.recover(rows, given);
     let alike = match (wanted.0, counted.0) {
         (None, None) => true,
         (Some(own), Some(other)) => same(own.0, other.0) && same(own.1, other.1),

@@ -14,7 +14,6 @@ mod math {
 }
 
 pub mod batch;
-pub mod counted;
 pub mod entries;
 pub mod floats;
 pub mod kernel;

@@ -10,6 +10,7 @@ use std::path::Path;
 
 use crate::batch::{self, Drawn, Kind};
 use crate::kernel::{Call, Kernel};
+use crate::original::UNMODIFIED;
 use crate::records::{Fed, Reader, Record};
 use crate::report::{Verdict, differs_on_records};
 use crate::rng::Rng;
@@ -156,7 +157,7 @@ fn rows_left(body: &[u8]) -> Result<Option<Vec<f64>>, String> {
     let mut rows = task.rows.clone();
     let ends = &expected.run.normalised_at[..expected.run.normalisations];
     for _ in ends.iter().filter(|&&at| at <= allowance) {
-        crate::original::normalize(&mut rows);
+        UNMODIFIED.normalize(&mut rows);
     }
     Ok(Some(flat(&rows)))
 }

@@ -1,6 +1,7 @@
-//! The original, built from its unmodified text.
+//! The original: its functions, and the copies of its text that have them.
 
-use crate::math::numerical::lp::reach;
+use crate::math::numerical::{counted, lp};
+use crate::records::LineSetting;
 use crate::task::{Row, Task};
 
 /// The SHA-256 of the text of `lp.rs` that was built.
@@ -22,62 +23,6 @@ pub struct Answer {
     pub second: Option<usize>,
 }
 
-pub(crate) fn row_or_none(number: usize) -> Option<usize> {
-    (number != reach::no_row()).then_some(number)
-}
-
-pub(crate) fn number_of(row: Option<usize>) -> usize {
-    row.unwrap_or(reach::no_row())
-}
-
-pub fn normalize(rows: &mut [Row]) {
-    reach::normalize(rows);
-}
-
-/// The point on both boundaries of two rows.
-pub fn solve_2x2(first: Row, second: Row) -> Option<(f64, f64)> {
-    reach::two(
-        (first.0, first.1),
-        (second.0, second.1),
-        (first.2, second.2),
-    )
-}
-
-/// The highest and the lowest value.
-pub fn lp_1d(pairs: &[(f64, f64)], autonan: bool, feasibility: f64, scale: f64) -> (f64, f64) {
-    reach::line(pairs, autonan, feasibility, scale)
-}
-
-/// The source's own entry, on rows that are lent to it.
-pub fn solve_silent(rows: &mut [Row], task: &Task) -> (f64, f64) {
-    reach::solve(
-        rows,
-        (task.x0, task.y0),
-        task.skip,
-        task.feasibility,
-        task.scale,
-        task.normalize,
-    )
-}
-
-/// The solve with the collector that holds row numbers, on rows that are lent to it.
-pub fn solve(rows: &mut [Row], task: &Task) -> Answer {
-    let (point, held) = reach::solve_collecting(
-        rows,
-        (task.x0, task.y0),
-        task.skip,
-        task.feasibility,
-        task.scale,
-        task.normalize,
-    );
-    Answer {
-        x: point.0,
-        y: point.1,
-        first: row_or_none(held.0),
-        second: row_or_none(held.1),
-    }
-}
-
 /// What recovery is given besides the rows.
 #[derive(Clone, Copy, Debug)]
 pub struct Recovery {
@@ -94,16 +39,27 @@ pub struct Recovery {
 /// The recovered point, if any, and the collector afterwards.
 pub type Recovered = (Option<(f64, f64)>, Option<usize>, Option<usize>);
 
-pub fn recover(rows: &[Row], task: &Recovery) -> Recovered {
-    let held = (number_of(task.first), number_of(task.second));
-    let (point, after) = reach::recover(
-        rows,
-        task.upto,
-        (task.x, task.y),
-        task.bound,
-        task.epsilon,
-        task.reduced,
-        held,
-    );
-    (point, row_or_none(after.0), row_or_none(after.1))
+/// The functions of one copy of the text. `build/reach.rs.in`, which is appended to every copy, hands them on.
+pub trait Edition: Sync {
+    fn normalize(&self, rows: &mut [Row]);
+
+    /// The point on both boundaries of two rows.
+    fn solve_2x2(&self, first: Row, second: Row) -> Option<(f64, f64)>;
+
+    /// The highest and the lowest value.
+    fn lp_1d(&self, pairs: &[(f64, f64)], setting: &LineSetting) -> (f64, f64);
+
+    /// The source's own entry, which collects no active rows, on rows that are lent to it.
+    fn solve_silent(&self, rows: &mut [Row], task: &Task) -> (f64, f64);
+
+    /// The solve with the collector that holds row numbers, on rows that are lent to it.
+    fn solve(&self, rows: &mut [Row], task: &Task) -> Answer;
+
+    /// Recovery of a prefix with a collector that already holds something.
+    fn recover(&self, rows: &[Row], task: &Recovery) -> Recovered;
 }
+
+/// The unmodified text.
+pub const UNMODIFIED: &dyn Edition = &lp::reach::Text;
+/// The text with probes, which count readings as RULES 11 counts them, and branches.
+pub const COUNTED: &dyn Edition = &counted::reach::Text;

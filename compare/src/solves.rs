@@ -3,10 +3,9 @@
 use std::panic::{AssertUnwindSafe, catch_unwind};
 
 use crate::batch::{self, Drawn, Kind};
-use crate::counted;
 use crate::kernel::{Call, Kernel};
-use crate::original::{self, Answer};
-use crate::probe::Run;
+use crate::original::{Answer, COUNTED, UNMODIFIED};
+use crate::probe::{self, Run};
 use crate::records::{Record, Setting, Solution, Solved};
 use crate::report::{Difference, Verdict, differs_on_records, hex, row_text};
 use crate::rng::Rng;
@@ -54,10 +53,12 @@ fn as_original_takes_it(task: &Task) -> Task {
 pub fn expect(task: &Task) -> Result<Expected, String> {
     let task = &as_original_takes_it(task);
     let mut rows = task.rows.clone();
-    let answer = catch_unwind(AssertUnwindSafe(|| original::solve(&mut rows, task)))
+    let answer = catch_unwind(AssertUnwindSafe(|| UNMODIFIED.solve(&mut rows, task)))
         .map_err(|_| "the original panicked".to_string())?;
     let mut counted_rows = task.rows.clone();
-    let (counted_answer, run) = counted::solve(&mut counted_rows, task);
+    probe::start();
+    let counted_answer = COUNTED.solve(&mut counted_rows, task);
+    let run = probe::finish();
     if !same_answer(&answer, &counted_answer) || !same_rows(&rows, &counted_rows) {
         return Err("the instrumented copy does not do what the original does".to_string());
     }
@@ -68,7 +69,7 @@ pub fn expect(task: &Task) -> Result<Expected, String> {
 fn check_silent(task: &Task, expected: &Expected) -> Result<(), String> {
     let task = &as_original_takes_it(task);
     let mut rows = task.rows.clone();
-    let (x, y) = original::solve_silent(&mut rows, task);
+    let (x, y) = UNMODIFIED.solve_silent(&mut rows, task);
     if same(x, expected.answer.x) && same(y, expected.answer.y) && same_rows(&rows, &expected.rows)
     {
         Ok(())
@@ -91,7 +92,7 @@ pub fn kind_of(x: f64, y: f64) -> u64 {
 fn check_rows(task: &Task, times: usize, kernel_rows: &[f64]) -> Result<(), String> {
     let mut rows = task.rows.clone();
     for _ in 0..times {
-        original::normalize(&mut rows);
+        UNMODIFIED.normalize(&mut rows);
     }
     let wanted = flat(&rows);
     let right = if times == 0 {

@@ -12,12 +12,13 @@ use std::hint::black_box;
 use std::process::ExitCode;
 
 use compare::kernel::{Call, Kernel};
+use compare::original::{COUNTED, UNMODIFIED};
+use compare::probe;
 use compare::records::Setting;
 use compare::rng::Rng;
 use compare::same::same;
 use compare::solves::{ENOUGH, grid, planner_rows};
 use compare::task::{Row, Task};
-use compare::{counted, original, probe};
 
 const USAGE: &str = "bench [options]
   --rounds N      rounds of each case (200)
@@ -55,7 +56,7 @@ fn recovering_task(rng: &mut Rng) -> Task {
     loop {
         let task = grid(rng);
         let before = probe::taken("forward: trial failed");
-        counted::solve(&mut task.rows.clone(), &task);
+        COUNTED.solve(&mut task.rows.clone(), &task);
         if probe::taken("forward: trial failed") > before && task.rows.len() >= 8 {
             return task;
         }
@@ -111,20 +112,14 @@ fn instances_of(case: &Case) -> Vec<Instance> {
 fn run_original(instances: &mut [Instance]) {
     for instance in instances {
         instance.rows.copy_from_slice(&instance.task.rows);
-        black_box(original::solve_silent(
-            black_box(&mut instance.rows),
-            &instance.task,
-        ));
+        black_box(UNMODIFIED.solve_silent(black_box(&mut instance.rows), &instance.task));
     }
 }
 
 fn run_collecting(instances: &mut [Instance]) {
     for instance in instances {
         instance.rows.copy_from_slice(&instance.task.rows);
-        black_box(original::solve(
-            black_box(&mut instance.rows),
-            &instance.task,
-        ));
+        black_box(UNMODIFIED.solve(black_box(&mut instance.rows), &instance.task));
     }
 }
 
@@ -140,7 +135,7 @@ fn check_answers(case: &Case) -> Result<(), String> {
     let mut calls = calls_of(case);
     Kernel::new()?.make(&mut calls)?;
     for (task, call) in case.tasks.iter().zip(&calls) {
-        let wanted = original::solve(&mut task.rows.clone(), task);
+        let wanted = UNMODIFIED.solve(&mut task.rows.clone(), task);
         let Call::Solve { out, .. } = call else {
             continue;
         };
