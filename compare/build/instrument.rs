@@ -1,9 +1,13 @@
-//! The second copy of the original: its text with probes put in by the edits of `counting.edits`.
+//! The copies of the original that are not its own text: one with probes put in by the edits of `counting.edits`, and from it
+//! one for each rule of `src/zeros.rs`.
 //!
 //! An edit names whole lines of the original and what stands in their place. It must match exactly as often as it says, so
 //! an edit that no longer fits the text stops the build. `#name#` in the new lines becomes the number of that branch.
 
 const EDITS: &str = include_str!("counting.edits");
+
+/// The calls that a rule takes the place of, how often the text has each, and the rule's own.
+const CALLS: [(&str, usize, &str); 2] = [(".min(", 4, ".lesser("), (".max(", 7, ".greater(")];
 
 pub struct Instrumented {
     pub text: String,
@@ -76,24 +80,37 @@ fn number_branches(put: &str, branches: &mut Vec<String>) -> Result<String, Stri
     Ok(numbered)
 }
 
+/// Puts one text in the place of another, which must be found just so often.
+fn replace(text: &str, find: &str, times: usize, put: &str) -> Result<String, String> {
+    let found = text.matches(find).count();
+    if found != times {
+        return Err(format!(
+            "expected {times} times in the original and found {found} times:\n{find}"
+        ));
+    }
+    Ok(text.replace(find, put))
+}
+
 pub fn instrument(original: &str) -> Result<Instrumented, String> {
     let mut text = original.to_string();
     let mut branches = Vec::new();
     for edit in parse_edits(EDITS)? {
-        let found = text.matches(&edit.find).count();
-        if found != edit.times {
-            return Err(format!(
-                "counting.edits: expected {} times and found {found} times:\n{}",
-                edit.times, edit.find
-            ));
-        }
         let put = number_branches(&edit.put, &mut branches)?;
-        text = text.replace(&edit.find, &put);
+        text = replace(&text, &edit.find, edit.times, &put)?;
     }
     Ok(Instrumented { text, branches })
 }
 
 impl Instrumented {
+    /// The text with a rule of `src/zeros.rs` for `min` and `max`.
+    pub fn by_rule(&self, rule: &str) -> Result<String, String> {
+        let mut text = self.text.clone();
+        for (call, times, own) in CALLS {
+            text = replace(&text, call, times, own)?;
+        }
+        Ok(format!("{text}\nuse crate::zeros::{rule} as _;\n"))
+    }
+
     /// A table of the branches' names, by number.
     pub fn names_table(&self) -> String {
         let mut table = format!("pub const NAMES: [&str; {}] = [\n", self.branches.len());

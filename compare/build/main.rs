@@ -1,5 +1,6 @@
-//! Writes the two copies of the original that the comparison builds: one that is its text and nothing else but an appended
-//! module which reaches its private items, and one into which the counting of readings is put by exact replacements.
+//! Writes the copies of the original that the comparison builds: one that is its text and nothing else but an appended module
+//! which reaches its private items, one into which the counting of readings is put by exact replacements, and from that one
+//! for each of two rules for the smaller and the larger of two numbers.
 
 mod instrument;
 mod sha256;
@@ -86,6 +87,25 @@ fn module_line(name: &str, path: &Path) -> String {
         "#[allow(dead_code, unused_imports, unused_assignments, clippy::all)]\n#[path = {:?}]\npub(crate) mod {name};\n",
         path.display().to_string()
     )
+}
+
+/// Writes the copies of the text, and the table of the branches that are counted in them; gives the lines of their modules.
+fn write_copies(out: &Path, lp: String) -> Result<String, String> {
+    let counted = instrument::instrument(&lp)?;
+    write_text(&out.join("branches.rs"), &counted.names_table());
+    let copies = [
+        ("lp", lp),
+        ("ordered", counted.by_rule("Ordered")?),
+        ("left", counted.by_rule("Left")?),
+        ("counted", counted.text),
+    ];
+    let mut modules = String::new();
+    for (name, text) in copies {
+        let path = out.join(format!("{name}.rs"));
+        write_module(&path, &text);
+        modules += &module_line(name, &path);
+    }
+    Ok(modules)
 }
 
 /// The static library's path, which must be there.
@@ -187,18 +207,10 @@ fn main() {
     let published = lp_sum == LP_SUM && general_sum == GENERAL_SUM;
     println!("cargo:rustc-env=COMPARE_PUBLISHED={published}");
 
-    write_module(&out.join("lp.rs"), &lp);
     write_text(&out.join("general.rs"), &general);
-    let counted = match instrument::instrument(&lp) {
-        Ok(counted) => counted,
-        Err(message) => stop(&message),
-    };
-    write_module(&out.join("counted.rs"), &counted.text);
-    write_text(&out.join("branches.rs"), &counted.names_table());
     let modules = module_line("general", &out.join("general.rs"))
-        + &module_line("lp", &out.join("lp.rs"))
-        + &module_line("counted", &out.join("counted.rs"))
-        + "pub(crate) use general::cross_product_2d;\n";
+        + "pub(crate) use general::cross_product_2d;\n"
+        + &write_copies(&out, lp).unwrap_or_else(|message| stop(&message));
     write_text(&out.join("numerical.rs"), &modules);
 
     println!("cargo:rustc-check-cfg=cfg(direct)");

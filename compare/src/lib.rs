@@ -29,3 +29,4 @@ pub mod solves;
 pub mod stream;
 pub mod task;
 pub mod values;
+mod zeros;

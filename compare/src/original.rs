@@ -1,6 +1,6 @@
 //! The original: its functions, and the copies of its text that have them.
 
-use crate::math::numerical::{counted, lp};
+use crate::math::numerical::{counted, left, lp, ordered};
 use crate::records::LineSetting;
 use crate::task::{Row, Task};
 
@@ -63,3 +63,7 @@ pub trait Edition: Sync {
 pub const UNMODIFIED: &dyn Edition = &lp::reach::Text;
 /// The text with probes, which count readings as RULES 11 counts them, and branches.
 pub const COUNTED: &dyn Edition = &counted::reach::Text;
+/// The counted text with the request's order of zeros in `min` and `max` (`zeros::Ordered`).
+pub const ORDERED: &dyn Edition = &ordered::reach::Text;
+/// The counted text with `min` and `max` that give the left one of two equal numbers (`zeros::Left`).
+pub const LEFT: &dyn Edition = &left::reach::Text;
