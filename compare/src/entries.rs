@@ -1,20 +1,202 @@
 //! Normalising, the 2 by 2 system, `lp_1d` and recovery, each entry against the original's own function.
 
-use std::panic::{AssertUnwindSafe, catch_unwind};
-
 use crate::batch::{self, Kind};
 use crate::kernel::{Call, Kernel};
-use crate::original::{COUNTED, Recovered, Recovery, UNMODIFIED};
+use crate::original::{Edition, Recovery};
 use crate::records::{LineSetting, Pair, Record, RecoveredPoint};
 use crate::report::{Verdict, differs_on_line, hex, hex_all, row_text};
 use crate::rng::Rng;
-use crate::same::{same, same_settled};
+use crate::same::{Alike, all_alike};
 use crate::solves;
+use crate::standard::{ORIGINAL, Standard};
 use crate::task::{Row, Task, flat};
 use crate::values;
 
-/// The number of calls made together.
-const AT_ONCE: u64 = 200;
+// ---- a case and its judgement
+
+/// What one of the entries is given.
+pub(crate) enum Case {
+    Normalize(Vec<Row>),
+    Two(Row, Row),
+    Line(Vec<(f64, f64)>, LineSetting),
+    Recover(Vec<Row>, Recovery),
+}
+
+/// What a copy of the original does with a case.
+#[derive(Debug)]
+struct Done {
+    /// The rows afterwards, the pair or the point; none where there is none.
+    numbers: Option<Vec<f64>>,
+    /// The collector after a recovery.
+    held: (Option<usize>, Option<usize>),
+}
+
+impl Done {
+    fn of(numbers: Option<Vec<f64>>) -> Done {
+        let held = (None, None);
+        Done { numbers, held }
+    }
+
+    /// What recovery must answer: the point with the collector afterwards, or a refusal with the collector as it was.
+    fn recovered(&self, rows: &[Row], given: &Recovery) -> RecoveredPoint {
+        let before = (given.first, given.second);
+        match &self.numbers {
+            _ if given.upto > rows.len() => RecoveredPoint::of(7, None, before),
+            None => RecoveredPoint::of(6, None, before),
+            Some(at) => RecoveredPoint::of(0, Some((at[0], at[1])), self.held),
+        }
+    }
+}
+
+fn pair_of((x, y): (f64, f64)) -> Vec<f64> {
+    vec![x, y]
+}
+
+fn flat_pairs(pairs: &[(f64, f64)]) -> Vec<f64> {
+    pairs.iter().flat_map(|&(a, b)| [a, b]).collect()
+}
+
+/// The numbers of a recovery that reach its `min` and `max` as they are, as the copies of a standard are given them.
+fn as_given(by: &Standard, given: &Recovery) -> Recovery {
+    Recovery {
+        x: (by.given)(given.x),
+        y: (by.given)(given.y),
+        bound: (by.given)(given.bound),
+        epsilon: (by.given)(given.epsilon),
+        reduced: (by.given)(given.reduced),
+        ..*given
+    }
+}
+
+/// Whether an entry answered the wanted pair, or refused with this number where none is wanted.
+fn same_pair(alike: Alike, wanted: &Done, none: u64, got: &Pair) -> bool {
+    match &wanted.numbers {
+        None => got.same_words(&Pair::refused(none)),
+        Some(pair) => got.refusal == 0 && all_alike(alike, pair, &[got.x, got.y]),
+    }
+}
+
+impl Case {
+    fn call(&self) -> Call {
+        match self {
+            Case::Normalize(rows) => Call::normalize(flat(rows)),
+            Case::Two(first, second) => Call::two(*first, *second),
+            Case::Line(pairs, setting) => Call::line(flat_pairs(pairs), *setting),
+            Case::Recover(rows, given) => Call::recover(flat(rows), given),
+        }
+    }
+
+    /// What a copy does. It cannot be asked about a prefix longer than the rows.
+    fn done(&self, by: &Standard, copy: &dyn Edition) -> Done {
+        match self {
+            Case::Normalize(rows) => {
+                let mut rows = rows.clone();
+                copy.normalize(&mut rows);
+                Done::of(Some(flat(&rows)))
+            }
+            Case::Two(first, second) => Done::of(copy.solve_2x2(*first, *second).map(pair_of)),
+            Case::Line(pairs, setting) => {
+                let setting = LineSetting {
+                    feasibility: (by.given)(setting.feasibility),
+                    ..*setting
+                };
+                Done::of(Some(pair_of(copy.lp_1d(pairs, &setting))))
+            }
+            Case::Recover(rows, given) if given.upto > rows.len() => Done {
+                numbers: None,
+                held: (given.first, given.second),
+            },
+            Case::Recover(rows, given) => {
+                let (point, first, second) = copy.recover(rows, &as_given(by, given));
+                Done {
+                    numbers: point.map(pair_of),
+                    held: (first, second),
+                }
+            }
+        }
+    }
+
+    /// What both copies of a standard do, which must agree.
+    fn expect(&self, by: &Standard) -> Result<Done, String> {
+        let [first, second] = by.ask(|copy| self.done(by, copy))?;
+        let agree = match (&first.numbers, &second.numbers) {
+            (None, None) => true,
+            (Some(own), Some(other)) => by.agree(own, other),
+            _ => false,
+        };
+        if agree && first.held == second.held {
+            Ok(first)
+        } else {
+            Err(format!(
+                "two copies of the original do not agree: {first:?} and {second:?}"
+            ))
+        }
+    }
+
+    /// Judges a case by what its call left.
+    pub(crate) fn judge(&self, by: &Standard, calls: &[Call]) -> Result<(), String> {
+        let wanted = self.expect(by)?;
+        let right = match (self, calls) {
+            (Case::Normalize(_), [Call::Normalize { rows, refusal }]) => {
+                let numbers = wanted.numbers.as_deref().unwrap_or_default();
+                *refusal == 0 && all_alike(by.alike, numbers, rows)
+            }
+            (Case::Two(..), [Call::Two { out, .. }]) => same_pair(by.alike, &wanted, 5, out),
+            (Case::Line(..), [Call::Line { out, .. }]) => same_pair(by.alike, &wanted, 0, out),
+            (Case::Recover(rows, given), [Call::Recover { out, .. }]) => {
+                out.same(&wanted.recovered(rows, given), by.alike)
+            }
+            _ => false,
+        };
+        if right {
+            return Ok(());
+        }
+        let numbers = hex_all(&wanted.numbers.clone().unwrap_or_default());
+        let left = calls.iter().map(told).collect::<String>();
+        Err(format!(
+            "the entry gives {left}; the original {numbers} ({wanted:?})"
+        ))
+    }
+
+    /// The case as a line of `entries.txt`.
+    fn line(&self) -> String {
+        match self {
+            Case::Normalize(rows) => format!("norm {} {}", rows.len(), hex_all(&flat(rows))),
+            Case::Two(first, second) => {
+                let left = hex_all(&[first.0, first.1, second.0, second.1]);
+                format!("two {left} {}", hex_all(&[first.2, second.2]))
+            }
+            Case::Line(pairs, given) => {
+                let setting = format!("{} {}", u8::from(given.autonan), hex(given.feasibility));
+                let pairs = format!("{} {}", pairs.len(), hex_all(&flat_pairs(pairs)));
+                format!("line {setting} {pairs}")
+            }
+            Case::Recover(rows, given) => format!(
+                "recover {} {} {} {} {} {}",
+                given.upto,
+                hex_all(&[given.x, given.y, given.epsilon, given.reduced, given.bound]),
+                row_text(given.first),
+                row_text(given.second),
+                rows.len(),
+                hex_all(&flat(rows))
+            ),
+        }
+    }
+}
+
+/// What a call of an entry left, with the bits of its numbers.
+fn told(call: &Call) -> String {
+    match call {
+        Call::Normalize { rows, refusal } => format!("refusal {refusal}, {}", hex_all(rows)),
+        Call::Two { out, .. } | Call::Line { out, .. } => {
+            format!("{} ({out:?})", hex_all(&[out.x, out.y]))
+        }
+        Call::Recover { out, .. } => format!("{} ({out:?})", hex_all(&[out.x, out.y])),
+        _ => "what another entry gives".to_string(),
+    }
+}
+
+// ---- the cases
 
 /// A number of any kind, everyday ones most often.
 fn number(rng: &mut Rng) -> f64 {
@@ -30,44 +212,13 @@ fn row(rng: &mut Rng) -> Row {
     (number(rng), number(rng), number(rng))
 }
 
-pub(crate) fn judge_normalize(rows: &[Row], calls: &[Call]) -> Result<(), String> {
-    let [Call::Normalize { rows: got, refusal }] = calls else {
-        return Err("not a call of normalising".to_string());
-    };
-    let mut wanted = rows.to_vec();
-    UNMODIFIED.normalize(&mut wanted);
-    if *refusal == 0 && same_settled(&flat(&wanted), got) {
-        return Ok(());
-    }
-    Err(format!(
-        "normalising gives refusal {refusal} and {}; the original {}",
-        hex_all(got),
-        hex_all(&flat(&wanted))
-    ))
-}
-
-pub fn normalizings(kernel: &mut Kernel, rng: &mut Rng, cases: u64) -> Verdict {
-    let kind = Kind {
-        at_once: AT_ONCE,
-        draw: &|rng, _| {
-            let size = rng.size(0, 12);
-            let rows: Vec<Row> = (0..size).map(|_| row(rng)).collect();
-            let call = Call::normalize(flat(&rows));
-            (rows, vec![call])
-        },
-        judge: &|rows: &Vec<Row>, calls| judge_normalize(rows, calls),
-        tell: &|rows, what| {
-            differs_on_line(
-                what,
-                format!("norm {} {}", rows.len(), hex_all(&flat(rows))),
-            )
-        },
-    };
-    batch::run(&kind, kernel, rng, cases)
+fn normalizing(rng: &mut Rng) -> Case {
+    let size = rng.size(0, 12);
+    Case::Normalize((0..size).map(|_| row(rng)).collect())
 }
 
 /// Two rows, at times nearly parallel, so that the determinant is near its error bound.
-fn two_rows(rng: &mut Rng) -> (Row, Row) {
+fn system(rng: &mut Rng) -> Case {
     let first = row(rng);
     let mut second = row(rng);
     match rng.below(4) {
@@ -82,50 +233,7 @@ fn two_rows(rng: &mut Rng) -> (Row, Row) {
         }
         _ => {}
     }
-    (first, second)
-}
-
-/// Whether an entry answered the pair that the original gives, or refused with this number where the original gives none.
-fn same_pair(wanted: Option<(f64, f64)>, none: u64, got: &Pair) -> bool {
-    match wanted {
-        None => got.same_words(&Pair::refused(none)),
-        Some((x, y)) => got.refusal == 0 && same_settled(&[x, y], &[got.x, got.y]),
-    }
-}
-
-fn judge_two(first: Row, second: Row, calls: &[Call]) -> Result<(), String> {
-    let [Call::Two { out, .. }] = calls else {
-        return Err("not a call of the system".to_string());
-    };
-    let wanted = UNMODIFIED.solve_2x2(first, second);
-    if same_pair(wanted, 5, out) {
-        return Ok(());
-    }
-    Err(format!(
-        "the system gives {out:?}, {} {}; the original {wanted:?}",
-        hex(out.x),
-        hex(out.y)
-    ))
-}
-
-pub fn systems(kernel: &mut Kernel, rng: &mut Rng, cases: u64) -> Verdict {
-    let kind = Kind {
-        at_once: AT_ONCE,
-        draw: &|rng, _| {
-            let (first, second) = two_rows(rng);
-            let call = Call::two(first, second);
-            ((first, second), vec![call])
-        },
-        judge: &|&(first, second), calls| judge_two(first, second, calls),
-        tell: &|(first, second), what| {
-            let left = hex_all(&[first.0, first.1, second.0, second.1]);
-            differs_on_line(
-                what,
-                format!("two {left} {}", hex_all(&[first.2, second.2])),
-            )
-        },
-    };
-    batch::run(&kind, kernel, rng, cases)
+    Case::Two(first, second)
 }
 
 /// Pairs of any kind, or pairs whose ends lie close together.
@@ -154,69 +262,19 @@ fn pairs(rng: &mut Rng) -> Vec<(f64, f64)> {
         .collect()
 }
 
-/// What `lp_1d` is given.
-pub(crate) struct Line {
-    pub(crate) pairs: Vec<(f64, f64)>,
-    pub(crate) setting: LineSetting,
-}
-
-impl Line {
-    fn flat(&self) -> Vec<f64> {
-        self.pairs.iter().flat_map(|&(a, b)| [a, b]).collect()
-    }
-
-    fn draw(rng: &mut Rng, case: u64) -> Line {
-        let pairs = pairs(rng);
-        let feasibility = match rng.below(4) {
-            0 => values::special(rng),
-            1 => 1e-3,
-            _ => 1e-9,
-        };
-        let setting = LineSetting {
-            feasibility,
-            scale: number(rng),
-            autonan: case.is_multiple_of(2),
-        };
-        Line { pairs, setting }
-    }
-
-    pub(crate) fn judge(&self, calls: &[Call]) -> Result<(), String> {
-        let [Call::Line { out, .. }] = calls else {
-            return Err("not a call of lp_1d".to_string());
-        };
-        let setting = LineSetting {
-            feasibility: values::as_original_takes_it(self.setting.feasibility),
-            ..self.setting
-        };
-        let wanted = UNMODIFIED.lp_1d(&self.pairs, &setting);
-        if same_pair(Some(wanted), 0, out) {
-            return Ok(());
-        }
-        Err(format!(
-            "lp_1d gives {out:?}, {} {}; the original {wanted:?}",
-            hex(out.x),
-            hex(out.y)
-        ))
-    }
-}
-
-pub fn lines(kernel: &mut Kernel, rng: &mut Rng, cases: u64) -> Verdict {
-    let kind = Kind {
-        at_once: AT_ONCE,
-        draw: &|rng, case| {
-            let line = Line::draw(rng, case);
-            let call = Call::line(line.flat(), line.setting);
-            (line, vec![call])
-        },
-        judge: &Line::judge,
-        tell: &|line: &Line, what| {
-            let given = &line.setting;
-            let setting = format!("{} {}", u8::from(given.autonan), hex(given.feasibility));
-            let pairs = format!("{} {}", line.pairs.len(), hex_all(&line.flat()));
-            differs_on_line(what, format!("line {setting} {pairs}"))
-        },
+fn line(rng: &mut Rng, case: u64) -> Case {
+    let pairs = pairs(rng);
+    let feasibility = match rng.below(4) {
+        0 => values::special(rng),
+        1 => 1e-3,
+        _ => 1e-9,
     };
-    batch::run(&kind, kernel, rng, cases)
+    let setting = LineSetting {
+        feasibility,
+        scale: number(rng),
+        autonan: case.is_multiple_of(2),
+    };
+    Case::Line(pairs, setting)
 }
 
 fn some_row_number(rng: &mut Rng, size: usize) -> Option<usize> {
@@ -241,16 +299,20 @@ fn far_out(rng: &mut Rng) -> Task {
     task
 }
 
-/// Rows, a point and tolerances for which recovery has something to do.
-fn recovery(rng: &mut Rng) -> (Vec<Row>, Recovery) {
-    let task = match rng.below(9) {
+/// Rows and a start for which recovery has something to do.
+fn recoverable(rng: &mut Rng) -> Task {
+    match rng.below(9) {
         8 => far_out(rng),
         0 => solves::special(rng),
         1 => solves::duplicated(rng),
         2 => solves::edges(rng),
         3 | 4 => solves::coincident(rng),
         _ => solves::grid(rng),
-    };
+    }
+}
+
+/// A recovery of a prefix of the task's rows, mostly from its start.
+fn recovery(rng: &mut Rng, task: Task) -> Case {
     let size = task.rows.len();
     let upto = match rng.below(10) {
         0 => size + 1,
@@ -296,80 +358,51 @@ fn recovery(rng: &mut Rng) -> (Vec<Row>, Recovery) {
         first,
         second,
     };
-    (task.rows, given)
+    Case::Recover(task.rows, given)
 }
 
-/// What the original does with a recovery; none where it cannot be asked, its prefix being longer than the rows.
-fn original_recovery(rows: &[Row], given: &Recovery) -> Result<Option<Recovered>, String> {
-    if given.upto > rows.len() {
-        return Ok(None);
-    }
-    let given = &Recovery {
-        x: values::as_original_takes_it(given.x),
-        y: values::as_original_takes_it(given.y),
-        bound: values::as_original_takes_it(given.bound),
-        epsilon: values::as_original_takes_it(given.epsilon),
-        reduced: values::as_original_takes_it(given.reduced),
-        ..*given
+// ---- the families
+
+/// The number of calls made together.
+const AT_ONCE: u64 = 200;
+
+/// Draws cases and holds the kernel to a standard.
+fn run(
+    by: &Standard,
+    draw: fn(&mut Rng, u64) -> Case,
+    kernel: &mut Kernel,
+    rng: &mut Rng,
+    cases: u64,
+) -> Verdict {
+    let kind = Kind {
+        at_once: AT_ONCE,
+        draw: &|rng, number| {
+            let case = draw(rng, number);
+            let call = case.call();
+            (case, vec![call])
+        },
+        judge: &|case: &Case, calls| case.judge(by, calls),
+        tell: &|case, what| differs_on_line(what, case.line()),
     };
-    let wanted = catch_unwind(AssertUnwindSafe(|| UNMODIFIED.recover(rows, given)))
-        .map_err(|_| "the original panicked".to_string())?;
-    let counted = COUNTED.recover(rows, given);
-    let alike = match (wanted.0, counted.0) {
-        (None, None) => true,
-        (Some(own), Some(other)) => same(own.0, other.0) && same(own.1, other.1),
-        _ => false,
-    };
-    if alike && (wanted.1, wanted.2) == (counted.1, counted.2) {
-        Ok(Some(wanted))
-    } else {
-        Err("the instrumented copy does not do what the original does".to_string())
-    }
+    batch::run(&kind, kernel, rng, cases)
 }
 
-pub(crate) fn judge_recover(rows: &[Row], given: &Recovery, calls: &[Call]) -> Result<(), String> {
-    let [Call::Recover { out, .. }] = calls else {
-        return Err("not a call of recovery".to_string());
-    };
-    let before = (given.first, given.second);
-    let original = original_recovery(rows, given)?;
-    let wanted = match original {
-        None => RecoveredPoint::of(7, None, before),
-        Some((None, ..)) => RecoveredPoint::of(6, None, before),
-        Some((point, first, second)) => RecoveredPoint::of(0, point, (first, second)),
-    };
-    if out.same(&wanted) {
-        return Ok(());
-    }
-    Err(format!(
-        "recovery gives {out:?}, {} {}; the original {original:?}",
-        hex(out.x),
-        hex(out.y)
-    ))
+pub fn normalizings(kernel: &mut Kernel, rng: &mut Rng, cases: u64) -> Verdict {
+    run(&ORIGINAL, |rng, _| normalizing(rng), kernel, rng, cases)
 }
 
-fn recovery_line(rows: &[Row], given: &Recovery) -> String {
-    format!(
-        "recover {} {} {} {} {} {}",
-        given.upto,
-        hex_all(&[given.x, given.y, given.epsilon, given.reduced, given.bound]),
-        row_text(given.first),
-        row_text(given.second),
-        rows.len(),
-        hex_all(&flat(rows))
-    )
+pub fn systems(kernel: &mut Kernel, rng: &mut Rng, cases: u64) -> Verdict {
+    run(&ORIGINAL, |rng, _| system(rng), kernel, rng, cases)
+}
+
+pub fn lines(kernel: &mut Kernel, rng: &mut Rng, cases: u64) -> Verdict {
+    run(&ORIGINAL, line, kernel, rng, cases)
 }
 
 pub fn recoveries(kernel: &mut Kernel, rng: &mut Rng, cases: u64) -> Verdict {
-    let kind = Kind {
-        at_once: AT_ONCE,
-        draw: &|rng, _| {
-            let (rows, given) = recovery(rng);
-            let call = Call::recover(flat(&rows), &given);
-            ((rows, given), vec![call])
-        },
-        judge: &|(rows, given): &(Vec<Row>, Recovery), calls| judge_recover(rows, given, calls),
-        tell: &|(rows, given), what| differs_on_line(what, recovery_line(rows, given)),
+    let draw = |rng: &mut Rng, _| {
+        let task = recoverable(rng);
+        recovery(rng, task)
     };
-    batch::run(&kind, kernel, rng, cases)
+    run(&ORIGINAL, draw, kernel, rng, cases)
 }

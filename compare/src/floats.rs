@@ -1,22 +1,13 @@
 //! Root and fused multiply-add against the machine's own, bit by bit.
 
-use std::hint::black_box;
-
 use crate::kernel::{Call, Kernel};
 use crate::report::{Difference, Verdict, differs_on_line, hex};
 use crate::rng::Rng;
-use crate::same::THE_NAN;
+use crate::same::settled_bits;
 use crate::values;
 
-/// The bits that the kernel must give where the machine gives `x`. The compiler may take a NaN that it computes to have any
-/// payload, and so leave the test out; it knows nothing of a number that comes out of the black box.
-fn wanted_bits(x: f64) -> u64 {
-    let x = black_box(x);
-    if x.is_nan() { THE_NAN } else { x.to_bits() }
-}
-
 fn judge_root(x: f64, got: f64) -> Verdict {
-    let wanted = wanted_bits(x.sqrt());
+    let wanted = settled_bits(x.sqrt());
     if got.to_bits() == wanted {
         return Ok(());
     }
@@ -27,7 +18,7 @@ fn judge_root(x: f64, got: f64) -> Verdict {
 }
 
 fn judge_fused([x, y, z]: [f64; 3], got: f64) -> Verdict {
-    let wanted = wanted_bits(x.mul_add(y, z));
+    let wanted = settled_bits(x.mul_add(y, z));
     if got.to_bits() == wanted {
         return Ok(());
     }

@@ -26,6 +26,7 @@ pub mod report;
 pub mod rng;
 pub mod same;
 pub mod solves;
+pub mod standard;
 pub mod stream;
 pub mod task;
 pub mod values;

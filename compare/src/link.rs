@@ -10,12 +10,12 @@ use std::path::Path;
 
 use crate::batch::{self, Drawn, Kind};
 use crate::kernel::{Call, Kernel};
-use crate::original::UNMODIFIED;
 use crate::records::{Fed, Reader, Record};
 use crate::report::{Verdict, differs_on_records};
 use crate::rng::Rng;
 use crate::same::same;
 use crate::solves::expect;
+use crate::standard::ORIGINAL;
 use crate::stream::{
     Piece, damaged_record, decode_body, first_difference, number_at, piece_text, pieces, same_line,
 };
@@ -150,14 +150,14 @@ fn rows_left(body: &[u8]) -> Result<Option<Vec<f64>>, String> {
     let Ok((task, allowance)) = decode_body(body) else {
         return Ok(None);
     };
-    let expected = expect(&task)?;
+    let expected = expect(&ORIGINAL, &task)?;
     if expected.run.readings <= allowance {
         return Ok(Some(flat(&expected.rows)));
     }
     let mut rows = task.rows.clone();
     let ends = &expected.run.normalised_at[..expected.run.normalisations];
     for _ in ends.iter().filter(|&&at| at <= allowance) {
-        UNMODIFIED.normalize(&mut rows);
+        ORIGINAL.first().normalize(&mut rows);
     }
     Ok(Some(flat(&rows)))
 }

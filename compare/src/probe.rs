@@ -1,4 +1,4 @@
-//! What the instrumented copy of the original counts while it runs: readings, the normalisations and the branches taken.
+//! What the instrumented copies of the original count while they run: readings, the normalisations and the branches taken.
 
 use std::cell::Cell;
 use std::sync::atomic::{AtomicU64, Ordering};
@@ -9,7 +9,7 @@ include!(concat!(env!("OUT_DIR"), "/branches.rs"));
 pub const MOST_NORMALISATIONS: usize = 7;
 
 /// What one run counted.
-#[derive(Clone, Copy, Default, Debug)]
+#[derive(Clone, Copy, Default, Debug, PartialEq)]
 pub struct Run {
     pub readings: u64,
     /// The readings taken when a normalisation had ended, for each in order.

@@ -1,6 +1,7 @@
 //! The records that cross to the kernel and back, field by field as `bindings/c/ravelsickle.h` has them.
 
 use crate::original::Recovery;
+use crate::same::{Alike, THE_NAN};
 use crate::task::Task;
 
 /// A field of a record, as a word of 64 bits.
@@ -213,7 +214,7 @@ pub const UNANSWERED: u64 = 0;
 
 /// The NaN that stands where there is no number.
 fn no_number() -> f64 {
-    f64::from_bits(crate::same::THE_NAN)
+    f64::from_bits(THE_NAN)
 }
 
 /// A row's number where its flag is set. Without it the number must be 0.
@@ -323,14 +324,13 @@ impl RecoveredPoint {
         }
     }
 
-    /// Equal up to NaN payload and the sign of zero of the point; of a refusal, and of the rows, every bit.
-    pub fn same(&self, wanted: &RecoveredPoint) -> bool {
+    /// The numbers of the point as closely as told; of a refusal, and of the rows, every bit.
+    pub fn same(&self, wanted: &RecoveredPoint, alike: Alike) -> bool {
         let as_wanted = RecoveredPoint {
             x: wanted.x,
             y: wanted.y,
             ..*self
         };
-        as_wanted.same_words(wanted)
-            && crate::same::same_settled(&[wanted.x, wanted.y], &[self.x, self.y])
+        as_wanted.same_words(wanted) && alike(wanted.x, self.x) && alike(wanted.y, self.y)
     }
 }

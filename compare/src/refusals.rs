@@ -2,7 +2,7 @@
 //! entry takes 4,096 rows or pairs and does with them what the original does.
 
 use crate::batch::{self, Drawn, Kind};
-use crate::entries::{Line, judge_normalize, judge_recover};
+use crate::entries::Case;
 use crate::kernel::{Call, Kernel};
 use crate::original::Recovery;
 use crate::records::{LineSetting, Pair, Record, RecoveredPoint, Setting, Solution, Solved};
@@ -10,6 +10,7 @@ use crate::report::{Verdict, differs_on_line, hex_all};
 use crate::rng::Rng;
 use crate::same::same_bits;
 use crate::solves::{self, Trial};
+use crate::standard::ORIGINAL;
 use crate::task::{Row, Task};
 use crate::values;
 
@@ -180,7 +181,7 @@ fn draw_most(rng: &mut Rng, entry: &'static str) -> Drawn<Lent> {
     };
     let (floats, calls, trial) = if solve {
         let floats = task.flat();
-        let (trial, calls) = solves::every_form(task);
+        let (trial, calls) = solves::every_form(&ORIGINAL, task);
         (floats, calls, Some(trial))
     } else if entry == "recover" {
         let call = Call::recover(task.flat(), &recovery(MOST_ROWS));
@@ -234,19 +235,16 @@ fn judge_accepted(lent: &Lent, calls: &[Call]) -> Result<(), String> {
         let (planes, _) = lent.floats.as_chunks::<3>();
         planes.iter().map(|&[a, b, c]| (a, b, c)).collect()
     };
-    match (&calls[0], &lent.trial) {
-        (_, Some(trial)) => solves::judge(trial, calls),
+    let case = match (&calls[0], &lent.trial) {
+        (_, Some(trial)) => return solves::judge(trial, calls),
         (Call::Line { setting, .. }, _) => {
             let (pairs, _) = lent.floats.as_chunks::<2>();
-            let line = Line {
-                pairs: pairs.iter().map(|&[a, b]| (a, b)).collect(),
-                setting: *setting,
-            };
-            line.judge(calls)
+            Case::Line(pairs.iter().map(|&[a, b]| (a, b)).collect(), *setting)
         }
-        (Call::Recover { .. }, _) => judge_recover(&rows(), &recovery(MOST_ROWS), calls),
-        _ => judge_normalize(&rows(), calls),
-    }
+        (Call::Recover { .. }, _) => Case::Recover(rows(), recovery(MOST_ROWS)),
+        _ => Case::Normalize(rows()),
+    };
+    case.judge(&ORIGINAL, calls)
 }
 
 fn judge(lent: &Lent, calls: &[Call]) -> Result<(), String> {

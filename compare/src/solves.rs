@@ -1,77 +1,73 @@
 //! Solves: families of inputs, and the comparison of one solve with everything it leaves.
 
-use std::panic::{AssertUnwindSafe, catch_unwind};
-
 use crate::batch::{self, Drawn, Kind};
 use crate::kernel::{Call, Kernel};
-use crate::original::{Answer, COUNTED, UNMODIFIED};
+use crate::original::{Answer, Edition, UNMODIFIED};
 use crate::probe::{self, Run};
 use crate::records::{Record, Setting, Solution, Solved};
-use crate::report::{Difference, Verdict, differs_on_records, hex, row_text};
+use crate::report::{Difference, Verdict, differs_on_records, hex_all, row_text};
 use crate::rng::Rng;
-use crate::same::{is_settled, same, same_bits, same_settled};
+use crate::same::{all_alike, same, same_bits};
+use crate::standard::{ORIGINAL, Standard};
 use crate::task::{Row, Task, flat};
 use crate::values;
 
 /// An allowance that no count reaches.
 pub const ENOUGH: u64 = u64::MAX;
 
-/// What the original does with a task.
+/// What a copy of the original does with a task.
+#[derive(Debug)]
 pub struct Expected {
     pub answer: Answer,
     pub rows: Vec<Row>,
     pub run: Run,
 }
 
-fn same_answer(left: &Answer, right: &Answer) -> bool {
-    same(left.x, right.x)
-        && same(left.y, right.y)
-        && left.first == right.first
-        && left.second == right.second
-}
-
-fn same_rows(left: &[Row], right: &[Row]) -> bool {
-    left.len() == right.len()
-        && left
-            .iter()
-            .zip(right)
-            .all(|(l, r)| same(l.0, r.0) && same(l.1, r.1) && same(l.2, r.2))
-}
-
-/// The task as the original is given it: the numbers that reach its `min` and `max` as they are have no signalling NaN where
-/// this processor would not give the other operand. The kernel is always given the task's own bits.
-fn as_original_takes_it(task: &Task) -> Task {
+/// The task as the copies of a standard are given it: the numbers that reach their `min` and `max` as they are.
+fn as_given(by: &Standard, task: &Task) -> Task {
     Task {
-        feasibility: values::as_original_takes_it(task.feasibility),
-        x0: values::as_original_takes_it(task.x0),
-        y0: values::as_original_takes_it(task.y0),
+        feasibility: (by.given)(task.feasibility),
+        x0: (by.given)(task.x0),
+        y0: (by.given)(task.y0),
         ..task.clone()
     }
 }
 
-/// Runs the original and its instrumented copy, which must agree.
-pub fn expect(task: &Task) -> Result<Expected, String> {
-    let task = &as_original_takes_it(task);
+fn solved(copy: &dyn Edition, task: &Task) -> Expected {
     let mut rows = task.rows.clone();
-    let answer = catch_unwind(AssertUnwindSafe(|| UNMODIFIED.solve(&mut rows, task)))
-        .map_err(|_| "the original panicked".to_string())?;
-    let mut counted_rows = task.rows.clone();
     probe::start();
-    let counted_answer = COUNTED.solve(&mut counted_rows, task);
+    let answer = copy.solve(&mut rows, task);
     let run = probe::finish();
-    if !same_answer(&answer, &counted_answer) || !same_rows(&rows, &counted_rows) {
-        return Err("the instrumented copy does not do what the original does".to_string());
+    Expected { answer, rows, run }
+}
+
+/// What both copies of a standard do, which must agree: on the numbers by value, on the rows bit by bit, on the active rows, and
+/// on what they counted where both do.
+pub fn expect(by: &Standard, task: &Task) -> Result<Expected, String> {
+    let task = &as_given(by, task);
+    let [first, second] = by.ask(|copy| solved(copy, task))?;
+    let (own, other) = (&first.answer, &second.answer);
+    let agree = by.agree(&[own.x, own.y], &[other.x, other.y])
+        && (own.first, own.second) == (other.first, other.second)
+        && same_bits(&flat(&first.rows), &flat(&second.rows))
+        && (first.run == second.run || !by.both_count);
+    if agree {
+        let run = second.run;
+        return Ok(Expected { run, ..first });
     }
-    Ok(Expected { answer, rows, run })
+    Err(format!(
+        "two copies of the original do not agree: {first:?} and {second:?}"
+    ))
 }
 
 /// The source's own entry, without collector, must answer what the solve with a collector answers.
 fn check_silent(task: &Task, expected: &Expected) -> Result<(), String> {
-    let task = &as_original_takes_it(task);
+    let task = &as_given(&ORIGINAL, task);
     let mut rows = task.rows.clone();
     let (x, y) = UNMODIFIED.solve_silent(&mut rows, task);
-    if same(x, expected.answer.x) && same(y, expected.answer.y) && same_rows(&rows, &expected.rows)
-    {
+    let answer = &expected.answer;
+    let same_rows = same_bits(&flat(&rows), &flat(&expected.rows));
+    if same(x, answer.x) && same(y, answer.y) && same_rows {
         Ok(())
     } else {
         Err("the original's own entry answers otherwise than with a collector".to_string())
@@ -89,16 +85,16 @@ pub fn kind_of(x: f64, y: f64) -> u64 {
 }
 
 /// Rows after the first `times` normalisations must be the original's; rows that were not normalised keep all bits.
-fn check_rows(task: &Task, times: usize, kernel_rows: &[f64]) -> Result<(), String> {
-    let mut rows = task.rows.clone();
+fn check_rows(trial: &Trial, times: usize, kernel_rows: &[f64]) -> Result<(), String> {
+    let mut rows = trial.task.rows.clone();
     for _ in 0..times {
-        UNMODIFIED.normalize(&mut rows);
+        trial.by.first().normalize(&mut rows);
     }
     let wanted = flat(&rows);
     let right = if times == 0 {
         same_bits(&wanted, kernel_rows)
     } else {
-        same_settled(&wanted, kernel_rows)
+        all_alike(trial.by.alike, &wanted, kernel_rows)
     };
     if right {
         Ok(())
@@ -109,31 +105,30 @@ fn check_rows(task: &Task, times: usize, kernel_rows: &[f64]) -> Result<(), Stri
 
 /// Kind, numbers and rows must be the original's.
 fn judge_answer(
-    task: &Task,
+    trial: &Trial,
     expected: &Expected,
     rows: &[f64],
     got: &Solution,
 ) -> Result<(), String> {
-    let answer = &expected.answer;
+    let (answer, alike) = (&expected.answer, trial.by.alike);
     if got.refusal != 0 {
         return Err(format!("refusal {} in place of an answer", got.refusal));
     }
-    if got.kind != kind_of(answer.x, answer.y) || !same(got.x, answer.x) || !same(got.y, answer.y) {
+    let numbers = all_alike(alike, &[answer.x, answer.y], &[got.x, got.y]);
+    if got.kind != kind_of(answer.x, answer.y) || !numbers {
         return Err(format!(
-            "answer kind {} ({:?}, {:?}); the original's is ({:?}, {:?})",
-            got.kind, got.x, got.y, answer.x, answer.y
-        ));
-    }
-    if !is_settled(got.x) || !is_settled(got.y) {
-        return Err(format!(
-            "a NaN of other bits: {} {}",
-            hex(got.x),
-            hex(got.y)
+            "answer kind {} ({:?}, {:?}), {}; the original's is ({:?}, {:?})",
+            got.kind,
+            got.x,
+            got.y,
+            hex_all(&[got.x, got.y]),
+            answer.x,
+            answer.y
         ));
     }
     if expected.run.normalisations == 0 {
-        check_rows(task, 0, rows)
-    } else if same_settled(&flat(&expected.rows), rows) {
+        check_rows(trial, 0, rows)
+    } else if all_alike(alike, &flat(&expected.rows), rows) {
         Ok(())
     } else {
         Err("rows differ after the solve".to_string())
@@ -142,7 +137,7 @@ fn judge_answer(
 
 /// Everything must be the original's.
 fn judge_finished(
-    task: &Task,
+    trial: &Trial,
     expected: &Expected,
     rows: &[f64],
     got: &Solved,
@@ -153,7 +148,7 @@ fn judge_finished(
         x: got.x,
         y: got.y,
     };
-    judge_answer(task, expected, rows, &numbers)?;
+    judge_answer(trial, expected, rows, &numbers)?;
     let answer = &expected.answer;
     if got.rows() != (answer.first, answer.second) {
         let (first, second) = got.rows();
@@ -180,7 +175,7 @@ fn judge_finished(
 /// The solve must have stopped, with the allowance as its count and nothing else in its answer, and left the rows as after
 /// the last normalisation that fitted.
 fn judge_stopped(
-    task: &Task,
+    trial: &Trial,
     run: &Run,
     allowance: u64,
     rows: &[f64],
@@ -193,12 +188,12 @@ fn judge_stopped(
         .iter()
         .filter(|&&at| at <= allowance)
         .count();
-    check_rows(task, fitted, rows)
+    check_rows(trial, fitted, rows)
 }
 
 /// Judges a call of the solve, finished or stopped by its allowance.
 fn judge_solve(
-    task: &Task,
+    trial: &Trial,
     expected: &Expected,
     rows: &[f64],
     allowance: u64,
@@ -206,23 +201,23 @@ fn judge_solve(
 ) -> Result<(), String> {
     let count = expected.run.readings;
     let judged = if count > allowance {
-        judge_stopped(task, &expected.run, allowance, rows, out)
+        judge_stopped(trial, &expected.run, allowance, rows, out)
     } else {
-        judge_finished(task, expected, rows, out)
+        judge_finished(trial, expected, rows, out)
     };
     judged.map_err(|what| format!("{what} (allowance {allowance}, count {count})"))
 }
 
-fn judge_call(task: &Task, expected: &Expected, call: &Call) -> Result<(), String> {
+fn judge_call(trial: &Trial, expected: &Expected, call: &Call) -> Result<(), String> {
     match call {
         Call::Solve { rows, setting, out } => {
-            judge_solve(task, expected, rows, setting.allowance, out)
+            judge_solve(trial, expected, rows, setting.allowance, out)
         }
         Call::Rows { rows, setting, out } => {
-            judge_solve(task, expected, rows, setting.allowance, out)
+            judge_solve(trial, expected, rows, setting.allowance, out)
                 .map_err(|what| format!("{what} (over row records)"))
         }
-        Call::Own { rows, out, .. } => judge_answer(task, expected, rows, out)
+        Call::Own { rows, out, .. } => judge_answer(trial, expected, rows, out)
             .map_err(|what| format!("{what} (the source's own entry)")),
         _ => Err("not a solve".to_string()),
     }
@@ -241,15 +236,17 @@ fn some_allowances(run: &Run, rng: &mut Rng) -> Vec<u64> {
     allowances
 }
 
-/// A task with what the original does with it, or with what went wrong there.
+/// A task with what it is held to, or with what went wrong there.
 pub struct Trial {
     pub task: Task,
+    by: &'static Standard,
     expected: Result<Expected, String>,
 }
 
 /// Runs the original on a task and names the calls of the kernel; with `allowances` also at and below its count.
 fn trial(task: Task, allowances: bool, rng: &mut Rng) -> Drawn<Trial> {
-    let expected = expect(&task).and_then(|expected| {
+    let by = &ORIGINAL;
+    let expected = expect(by, &task).and_then(|expected| {
         if allowances {
             check_silent(&task, &expected)?;
         }
@@ -269,26 +266,26 @@ fn trial(task: Task, allowances: bool, rng: &mut Rng) -> Drawn<Trial> {
         let last = given[given.len() - 1];
         calls.push(Call::rows(task.flat(), Setting::of(&task, last)));
     }
-    (Trial { task, expected }, calls)
+    (Trial { task, by, expected }, calls)
 }
 
 /// A task that every form of the solve takes, each with all the readings that it needs.
-pub(crate) fn every_form(task: Task) -> Drawn<Trial> {
-    let expected = expect(&task);
+pub(crate) fn every_form(by: &'static Standard, task: Task) -> Drawn<Trial> {
+    let expected = expect(by, &task);
     let setting = Setting::of(&task, ENOUGH);
     let calls = vec![
         Call::solve(task.flat(), setting),
         Call::rows(task.flat(), setting),
         Call::own(task.flat(), setting),
     ];
-    (Trial { task, expected }, calls)
+    (Trial { task, by, expected }, calls)
 }
 
 pub(crate) fn judge(trial: &Trial, calls: &[Call]) -> Result<(), String> {
     let expected = trial.expected.as_ref().map_err(String::clone)?;
     calls
         .iter()
-        .try_for_each(|call| judge_call(&trial.task, expected, call))
+        .try_for_each(|call| judge_call(trial, expected, call))
 }
 
 /// Compares one solve, at and below its count too.

@@ -12,6 +12,7 @@ use crate::kernel::Kernel;
 use crate::report::{Verdict, differs_on_records, hex, row_text};
 use crate::rng::Rng;
 use crate::solves::{self, ENOUGH, Expected, expect, kind_of};
+use crate::standard::ORIGINAL;
 use crate::task::{FIXED, HEADER, ROW, Row, Task, record};
 use crate::values;
 
@@ -102,7 +103,7 @@ pub(crate) fn piece_text(piece: &Piece<'_>) -> Result<String, String> {
         Piece::Whole(1, body) => match decode_body(body) {
             Err(number) => refused(number),
             Ok((task, allowance)) => {
-                let expected = expect(&task)?;
+                let expected = expect(&ORIGINAL, &task)?;
                 if expected.run.readings > allowance {
                     refused(3)
                 } else {
@@ -211,7 +212,7 @@ fn some_allowance(rng: &mut Rng, task: &Task) -> u64 {
     match rng.below(6) {
         0 => rng.below(40),
         1 | 2 => {
-            let count = expect(task).map_or(0, |expected| expected.run.readings);
+            let count = expect(&ORIGINAL, task).map_or(0, |expected| expected.run.readings);
             let near: [u64; 3] = [count, count.saturating_sub(1), count + 1];
             rng.pick(&near)
         }
