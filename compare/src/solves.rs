@@ -352,14 +352,8 @@ fn shrink_numbers(small: &mut Task, fails: &dyn Fn(&Task) -> bool) {
         [|row| &mut row.0, |row| &mut row.1, |row| &mut row.2];
     for at in 0..small.rows.len() {
         for number in numbers {
-            let own = *number(&mut small.rows[at]);
-            if SIMPLE
-                .iter()
-                .any(|simple| simple.to_bits() == own.to_bits())
-            {
-                continue;
-            }
-            for value in SIMPLE {
+            let own = number(&mut small.rows[at]).to_bits();
+            for value in SIMPLE.into_iter().take_while(|x| x.to_bits() != own) {
                 let mut tried = small.clone();
                 *number(&mut tried.rows[at]) = value;
                 if keep_if_failing(small, tried, fails) {
