@@ -7,8 +7,9 @@ use crate::records::{LineSetting, Pair, Record, RecoveredPoint};
 use crate::report::{Verdict, differs_on_line, hex, hex_all, row_text};
 use crate::rng::Rng;
 use crate::same::{Alike, all_alike};
+use crate::signs::signed_zeros;
 use crate::solves;
-use crate::standard::{ORIGINAL, Standard};
+use crate::standard::{ORIGINAL, SIGNS, Standard};
 use crate::task::{Row, Task, flat};
 use crate::values;
 
@@ -154,7 +155,7 @@ impl Case {
         let numbers = hex_all(&wanted.numbers.clone().unwrap_or_default());
         let left = calls.iter().map(told).collect::<String>();
         Err(format!(
-            "the entry gives {left}; the original {numbers} ({wanted:?})"
+            "the entry gives {left}; wanted is {numbers} ({wanted:?})"
         ))
     }
 
@@ -405,4 +406,31 @@ pub fn recoveries(kernel: &mut Kernel, rng: &mut Rng, cases: u64) -> Verdict {
         recovery(rng, task)
     };
     run(&ORIGINAL, draw, kernel, rng, cases)
+}
+
+/// A recovery, often at zeros of both signs, at times in a box whose half-width is one.
+fn signed_recovery(rng: &mut Rng) -> Case {
+    let task = if rng.once_in(2) {
+        signed_zeros(rng)
+    } else {
+        recoverable(rng)
+    };
+    let mut case = recovery(rng, task);
+    if let Case::Recover(_, given) = &mut case
+        && rng.once_in(4)
+    {
+        given.bound = 0.0 * rng.sign();
+    }
+    case
+}
+
+/// Every bit by the request's rule, of recovery most often: no other of these entries has a `min` or `max` that shows.
+pub fn signs(kernel: &mut Kernel, rng: &mut Rng, cases: u64) -> Verdict {
+    let draw = |rng: &mut Rng, number| match rng.below(8) {
+        0 => normalizing(rng),
+        1 => system(rng),
+        2 => line(rng, number),
+        _ => signed_recovery(rng),
+    };
+    run(&SIGNS, draw, kernel, rng, cases)
 }

@@ -207,7 +207,7 @@ impl Call {
 pub struct Kernel {
     back: back::Back,
     /// Where answers are to be spoilt, to see that the comparison finds it.
-    spoil: Option<Rng>,
+    spoil: Option<Spoiler>,
 }
 
 impl Kernel {
@@ -218,11 +218,11 @@ impl Kernel {
         })
     }
 
-    /// A kernel which changes one bit of what one call of each batch leaves.
-    pub fn spoilt(rng: Rng) -> Result<Kernel, String> {
+    /// A kernel which changes this bit in one word of what one call of each batch leaves.
+    pub fn spoilt(bit: u64, rng: Rng) -> Result<Kernel, String> {
         Ok(Kernel {
             back: back::Back::new()?,
-            spoil: Some(rng),
+            spoil: Some(Spoiler { bit, rng }),
         })
     }
 
@@ -233,76 +233,84 @@ impl Kernel {
             .lock()
             .expect("no thread fails while it notes calls")
             .extend(calls.iter().flat_map(Call::symbols));
-        if let Some(rng) = &mut self.spoil
+        if let Some(spoiler) = &mut self.spoil
             && !calls.is_empty()
         {
-            let at = rng.size(0, calls.len() - 1);
-            spoil(&mut calls[at], rng);
+            let at = spoiler.rng.size(0, calls.len() - 1);
+            spoiler.call(&mut calls[at]);
         }
         Ok(())
     }
 }
 
-fn spoil_one_of(numbers: &mut [f64], rng: &mut Rng) {
-    if !numbers.is_empty() {
-        let at = rng.size(0, numbers.len() - 1);
-        numbers[at] = f64::from_bits(numbers[at].to_bits() ^ 1);
+/// Changes what calls left.
+struct Spoiler {
+    bit: u64,
+    rng: Rng,
+}
+
+impl Spoiler {
+    fn one_of(&mut self, numbers: &mut [f64]) {
+        if !numbers.is_empty() {
+            let at = self.rng.size(0, numbers.len() - 1);
+            numbers[at] = f64::from_bits(numbers[at].to_bits() ^ self.bit);
+        }
     }
-}
 
-/// Changes the lowest bit of one field.
-fn spoil_record<R: Record>(record: &mut R, rng: &mut Rng) {
-    let mut words = record.words();
-    words[rng.size(0, R::WORDS - 1)] ^= 1;
-    *record = R::of_words(&words);
-}
-
-/// Changes the lowest bit of one float of the rows, or of one field of the answer.
-fn spoil_either<R: Record>(rows: &mut [f64], record: &mut R, rng: &mut Rng) {
-    if rows.is_empty() || !rng.once_in(4) {
-        spoil_record(record, rng);
-    } else {
-        spoil_one_of(rows, rng);
+    /// Changes the bit in one field, of which it must be a part: a flag has the lowest alone.
+    fn record<R: Record>(&mut self, record: &mut R) {
+        let before = record.words();
+        while record.words() == before {
+            let mut words = before.clone();
+            words[self.rng.size(0, R::WORDS - 1)] ^= self.bit;
+            *record = R::of_words(&words);
+        }
     }
-}
 
-/// Changes one bit of what a call left.
-fn spoil(call: &mut Call, rng: &mut Rng) {
-    match call {
-        Call::Roots { got, .. } | Call::Fuseds { got, .. } => spoil_one_of(got, rng),
-        Call::Normalize { rows, refusal } => {
-            if rows.is_empty() || rng.once_in(4) {
-                *refusal ^= 1;
-            } else {
-                spoil_one_of(rows, rng);
+    /// Changes one float of the rows, or one field of the answer.
+    fn either<R: Record>(&mut self, rows: &mut [f64], record: &mut R) {
+        if rows.is_empty() || !self.rng.once_in(4) {
+            self.record(record);
+        } else {
+            self.one_of(rows);
+        }
+    }
+
+    fn call(&mut self, call: &mut Call) {
+        match call {
+            Call::Roots { got, .. } | Call::Fuseds { got, .. } => self.one_of(got),
+            Call::Normalize { rows, refusal } => {
+                if rows.is_empty() || self.rng.once_in(4) {
+                    *refusal ^= self.bit;
+                } else {
+                    self.one_of(rows);
+                }
             }
+            Call::Two { out, .. } | Call::Line { out, .. } => self.record(out),
+            Call::Solve { rows, out, .. } | Call::Rows { rows, out, .. } => self.either(rows, out),
+            Call::Own { rows, out, .. } => self.either(rows, out),
+            Call::Recover { out, .. } => self.record(out),
+            Call::Link { left, .. } => self.left(left),
         }
-        Call::Two { out, .. } | Call::Line { out, .. } => spoil_record(out, rng),
-        Call::Solve { rows, out, .. } | Call::Rows { rows, out, .. } => {
-            spoil_either(rows, out, rng)
-        }
-        Call::Own { rows, out, .. } => spoil_either(rows, out, rng),
-        Call::Recover { out, .. } => spoil_record(out, rng),
-        Call::Link { left, .. } => spoil_left(left, rng),
     }
-}
 
-/// Changes one bit of what an offer left, or of what is held.
-fn spoil_left(left: &mut Left, rng: &mut Rng) {
-    match rng.below(4) {
-        0 => {
-            let at = rng.size(0, left.head.len() - 1);
-            left.head[at] ^= 1;
-        }
-        1 => left.changed ^= 1,
-        part => {
-            let at = rng.size(0, left.steps.len() - 1);
-            let step = &mut left.steps[at];
-            if part == 2 {
-                spoil_record(&mut step.fed, rng);
-            } else {
-                let at = rng.size(0, step.text.len() - 1);
-                step.text[at] ^= 1;
+    /// Changes what an offer left, or what is held; of a byte the lowest bit.
+    fn left(&mut self, left: &mut Left) {
+        match self.rng.below(4) {
+            0 => {
+                let at = self.rng.size(0, left.head.len() - 1);
+                left.head[at] ^= 1;
+            }
+            1 => left.changed ^= self.bit,
+            part => {
+                let at = self.rng.size(0, left.steps.len() - 1);
+                let step = &mut left.steps[at];
+                if part == 2 {
+                    self.record(&mut step.fed);
+                } else {
+                    let at = self.rng.size(0, step.text.len() - 1);
+                    step.text[at] ^= 1;
+                }
             }
         }
     }

@@ -25,6 +25,7 @@ pub mod refusals;
 pub mod report;
 pub mod rng;
 pub mod same;
+pub mod signs;
 pub mod solves;
 pub mod standard;
 pub mod stream;

@@ -11,7 +11,10 @@ use compare::kernel::Kernel;
 use compare::report::{Difference, Verdict, differs_on_line};
 use compare::rng::Rng;
 use compare::task::Task;
-use compare::{entries, floats, kernel, link, original, probe, refusals, solves, stream, values};
+use compare::{
+    entries, floats, kernel, link, original, probe, refusals, signs, solves, standard, stream,
+    values,
+};
 
 const USAGE: &str = "compare [options]
   --quick            a hundredth of everything
@@ -109,6 +112,17 @@ struct Family {
     runs: Runs,
 }
 
+impl Family {
+    fn compares_signs(&self) -> bool {
+        self.name.starts_with(SIGNS)
+    }
+
+    /// The bit that is changed in spoilt answers: a number's sign where that is compared of zeros too, else the lowest.
+    fn spoilt_bit(&self) -> u64 {
+        if self.compares_signs() { 1 << 63 } else { 1 }
+    }
+}
+
 const fn solve_family(name: &'static str, cases: u64, make: fn(&mut Rng) -> Task) -> Family {
     Family {
         name,
@@ -130,11 +144,13 @@ const fn case_family(
 }
 
 const STREAMS: &str = "rowrun-streams";
+/// The family, and the beginning of the names of those, that compare the signs of zeros.
+const SIGNS: &str = "signs";
 /// The place of the last family of solves in a row of them.
 const LAST_SOLVES: usize = 15;
 
 /// A family's place is part of its seed, so a new one stands at the end.
-const FAMILIES: [Family; 26] = [
+const FAMILIES: [Family; 28] = [
     solve_family("solve-random", 1_000_000, solves::random),
     solve_family("solve-parallel", 1_000_000, solves::parallel),
     solve_family("solve-duplicated", 700_000, solves::duplicated),
@@ -161,6 +177,8 @@ const FAMILIES: [Family; 26] = [
     case_family(STREAMS, 1_000_000, stream::streams),
     solve_family("solve-thresholds", 500_000, solves::thresholds),
     case_family("link", 1_000_000, link::links),
+    case_family(SIGNS, 10_000_000, signs::signs),
+    case_family("signs-entries", 2_000_000, entries::signs),
 ];
 
 /// Streams that the kernel's calls take: the place of a family, its part, and apart from these what is spoilt.
@@ -170,7 +188,7 @@ const SPOILT: u64 = 1 << 63;
 fn run_part(family: &Family, stream: u64, cases: u64, options: &Options, spoil: bool) -> Verdict {
     let mut rng = Rng::new(options.seed, stream);
     let made = if spoil {
-        Kernel::spoilt(Rng::new(options.seed, SPOILT | stream))
+        Kernel::spoilt(family.spoilt_bit(), Rng::new(options.seed, SPOILT | stream))
     } else {
         Kernel::new()
     };
@@ -260,6 +278,20 @@ fn say_branches(by: &str, all: bool) {
     }
 }
 
+/// A run of so many cases must have an answer in which the sign of a zero shows the rule.
+const SIGNS_SHOW: u64 = 100_000;
+
+/// Says in how many answers of a family the sign of a zero shows the rule; whether that is as often as it must be.
+fn say_signs(cases: u64) -> bool {
+    let shown = standard::SIGNS.take_other_signs();
+    println!("answers whose zero has another sign than by the left one: {shown} of {cases}");
+    let enough = shown > 0 || cases < SIGNS_SHOW;
+    if !enough {
+        eprintln!("no answer shows which rule the kernel has");
+    }
+    enough
+}
+
 /// Says which of the library's symbols no family called; whether there is none.
 fn say_symbols() -> bool {
     let (all, uncalled) = kernel::uncalled_symbols();
@@ -325,6 +357,9 @@ fn run_all(options: &Options) -> Result<u64, ()> {
         let cases = (family.cases / options.share).max(1);
         run_family(family, place, cases, options);
         total += cases;
+        if family.compares_signs() && !say_signs(cases) {
+            return Err(());
+        }
         if place == LAST_SOLVES && options.only.is_empty() {
             say_branches("solves alone", false);
         }

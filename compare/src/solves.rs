@@ -117,7 +117,7 @@ fn judge_answer(
     let numbers = all_alike(alike, &[answer.x, answer.y], &[got.x, got.y]);
     if got.kind != kind_of(answer.x, answer.y) || !numbers {
         return Err(format!(
-            "answer kind {} ({:?}, {:?}), {}; the original's is ({:?}, {:?})",
+            "answer kind {} ({:?}, {:?}), {}; wanted is ({:?}, {:?})",
             got.kind,
             got.x,
             got.y,
@@ -153,7 +153,7 @@ fn judge_finished(
     if got.rows() != (answer.first, answer.second) {
         let (first, second) = got.rows();
         return Err(format!(
-            "active rows {} {}; the original's are {} {}",
+            "active rows {} {}; wanted are {} {}",
             row_text(first),
             row_text(second),
             row_text(answer.first),
@@ -381,18 +381,24 @@ pub fn compare(
             trial(task, case % ALLOWANCES_EVERY == 0, rng)
         },
         judge: &judge,
-        tell: &|trial: &Trial, what| small_difference(&trial.task, what),
+        tell: &|trial: &Trial, what| {
+            let check = |task: &Task, kernel: &mut Kernel| check(task, kernel, &mut Rng::new(1, 1));
+            small_difference(&trial.task, what, check)
+        },
     };
     batch::run(&kind, kernel, rng, cases)
 }
 
-/// What differs on a task: none where the kernel cannot be run.
-fn difference_on(task: &Task) -> Option<String> {
-    let mut kernel = Kernel::new().ok()?;
-    check(task, &mut kernel, &mut Rng::new(1, 1)).err()
-}
+/// Compares one task.
+type Check = fn(&Task, &mut Kernel) -> Result<(), String>;
 
-fn small_difference(task: &Task, what: String) -> Box<Difference> {
+/// A difference, on the task made small as long as the check fails.
+pub(crate) fn small_difference(task: &Task, what: String, check: Check) -> Box<Difference> {
+    // What differs on a task: none where the kernel cannot be run.
+    let difference_on = |task: &Task| {
+        let mut kernel = Kernel::new().ok()?;
+        check(task, &mut kernel).err()
+    };
     let fails = |tried: &Task| difference_on(tried).is_some();
     let small = if fails(task) {
         shrink(task, &fails)
@@ -404,6 +410,12 @@ fn small_difference(task: &Task, what: String) -> Box<Difference> {
 }
 
 // ---- families ----
+
+/// The families but the one of very many rows.
+pub const SHORT: [fn(&mut Rng) -> Task; 16] = [
+    random, parallel, duplicated, scaled, grid, planner, special, zeros, warm, skips, tolerances,
+    any_bits, edges, thresholds, coincident, boxes,
+];
 
 /// Mostly a few rows, seldom up to 64.
 fn some_size(rng: &mut Rng) -> usize {
