@@ -175,7 +175,10 @@ impl Reading<'_> {
         let limit = session.limit.min(1 << 63);
         let counted = &session.bytes[..session.bytes.len().min(limit as usize)];
         let found = pieces(counted);
-        let lines: Result<Vec<String>, String> = found.iter().map(piece_text).collect();
+        let lines: Result<Vec<String>, String> = found
+            .iter()
+            .map(|piece| piece_text(&ORIGINAL, piece))
+            .collect();
         Ok(Reading {
             counted,
             limit,
@@ -394,11 +397,9 @@ fn check_vector(
         }
         said += &String::from_utf8_lossy(&step.text[..step.fed.printed]);
     }
-    let lines = text_of("01.out")?;
-    match first_difference(
-        &lines.lines().map(str::to_string).collect::<Vec<_>>(),
-        &said,
-    ) {
+    let lines = text_of("2.out")?;
+    let lines: Vec<String> = lines.lines().map(str::to_string).collect();
+    match first_difference(str::eq, &lines, &said) {
         None => Ok(cuts.len() as u64),
         Some(what) => Err(differs(what)),
     }

@@ -11,8 +11,9 @@ use std::thread;
 use crate::kernel::Kernel;
 use crate::report::{Verdict, differs_on_records, hex, row_text};
 use crate::rng::Rng;
+use crate::signs;
 use crate::solves::{self, ENOUGH, Expected, expect, kind_of};
-use crate::standard::ORIGINAL;
+use crate::standard::{ORIGINAL, SIGNS, Standard};
 use crate::task::{FIXED, HEADER, ROW, Row, Task, record};
 use crate::values;
 
@@ -96,14 +97,14 @@ fn answer_text(expected: &Expected) -> String {
     }
 }
 
-pub(crate) fn piece_text(piece: &Piece<'_>) -> Result<String, String> {
+pub(crate) fn piece_text(by: &Standard, piece: &Piece<'_>) -> Result<String, String> {
     let refused = |number: u64| Ok(format!("refused {number}"));
     match piece {
         Piece::Cut => refused(8),
         Piece::Whole(1, body) => match decode_body(body) {
             Err(number) => refused(number),
             Ok((task, allowance)) => {
-                let expected = expect(&ORIGINAL, &task)?;
+                let expected = expect(by, &task)?;
                 if expected.run.readings > allowance {
                     refused(3)
                 } else {
@@ -115,16 +116,34 @@ pub(crate) fn piece_text(piece: &Piece<'_>) -> Result<String, String> {
     }
 }
 
-/// The lines that `rowrun` must print for a stream, by the original.
-pub fn lines_of(bytes: &[u8]) -> Result<Vec<String>, String> {
+/// The lines for a stream, by a standard.
+fn lines_by(by: &Standard, bytes: &[u8]) -> Result<Vec<String>, String> {
     let mut lines = Vec::new();
     for piece in pieces(bytes) {
-        let text = piece_text(&piece)?;
+        let text = piece_text(by, &piece)?;
         lines.push(format!("{} {text}", lines.len() + 1));
     }
     lines.push(format!("end {}", lines.len()));
     Ok(lines)
 }
+
+/// The lines that `rowrun` must print for a stream: those by the request's rule for zeros, which must be the original's but for
+/// the signs of zeros.
+pub fn lines_of(bytes: &[u8]) -> Result<Vec<String>, String> {
+    let lines = lines_by(&SIGNS, bytes)?;
+    match first_difference(same_line, &lines_by(&ORIGINAL, bytes)?, &text_of(&lines)) {
+        None => Ok(lines),
+        Some(what) => Err(format!("by the rule for zeros {what}, the original's")),
+    }
+}
+
+/// Lines, each with its end.
+pub fn text_of(lines: &[String]) -> String {
+    lines.iter().map(|line| format!("{line}\n")).collect()
+}
+
+/// Whether a line, the second, is what it must be where the first is wanted.
+type SameLine = fn(&str, &str) -> bool;
 
 /// Whether two words of a line are the same; the bits of zeros of either sign are.
 fn same_word(left: &str, right: &str) -> bool {
@@ -132,18 +151,19 @@ fn same_word(left: &str, right: &str) -> bool {
     left == right || (ZEROS.contains(&left) && ZEROS.contains(&right))
 }
 
+/// The same up to the signs of zeros.
 pub(crate) fn same_line(left: &str, right: &str) -> bool {
     let (left, right): (Vec<&str>, Vec<&str>) =
         (left.split(' ').collect(), right.split(' ').collect());
     left.len() == right.len() && left.iter().zip(&right).all(|(l, r)| same_word(l, r))
 }
 
-/// The first line in which two outputs differ.
-pub(crate) fn first_difference(wanted: &[String], got: &str) -> Option<String> {
+/// The first line in which an output is not what is wanted.
+pub(crate) fn first_difference(same: SameLine, wanted: &[String], got: &str) -> Option<String> {
     let mut got_lines = got.split('\n');
     for line in wanted {
         let other = got_lines.next().unwrap_or("");
-        if !same_line(line, other) {
+        if !same(line, other) {
             return Some(format!("`{other}` in place of `{line}`"));
         }
     }
@@ -153,35 +173,45 @@ pub(crate) fn first_difference(wanted: &[String], got: &str) -> Option<String> {
 
 // ---- the vectors ----
 
-/// The two files of a folder: records.bin and records.out, or stdin and stdout.
-fn vector_files(folder: &Path) -> Option<(PathBuf, PathBuf)> {
-    [("records.bin", "records.out"), ("stdin", "stdout")]
-        .iter()
-        .map(|(records, lines)| (folder.join(records), folder.join(lines)))
-        .find(|(records, lines)| records.is_file() && lines.is_file())
-}
+/// The files that a folder may have, the first of these that it has: records, their lines, and how closely those are held.
+/// The lines of records.out were made before zeros had an order.
+const FILES: [(&str, &str, SameLine); 3] = [
+    ("records.bin", "requests/records.2.out", str::eq),
+    ("records.bin", "records.out", same_line),
+    ("stdin", "stdout", str::eq),
+];
 
-/// Runs the vectors: the original and the instrumented count must give their lines, and the kernel must do what both do.
-/// Gives the number of records.
-pub fn check_vectors(folder: &Path, kernel: &mut Kernel) -> Result<u64, String> {
-    let (records, lines) =
-        vector_files(folder).ok_or(format!("no records in {}", folder.display()))?;
+/// The records of a folder's vectors, whose lines must be those that `rowrun` must print.
+fn vector_records(folder: &Path) -> Result<Vec<u8>, String> {
+    let (records, lines, same) = FILES
+        .map(|(records, lines, same)| (folder.join(records), folder.join(lines), same))
+        .into_iter()
+        .find(|(records, lines, _)| records.is_file() && lines.is_file())
+        .ok_or(format!("no records in {}", folder.display()))?;
     let read = |path: &Path| fs::read(path).map_err(|error| format!("{}: {error}", path.display()));
     let bytes = read(&records)?;
-    let wanted = String::from_utf8(read(&lines)?).map_err(|error| error.to_string())?;
-    let own = lines_of(&bytes)?;
-    if let Some(what) = first_difference(&own, &wanted) {
-        return Err(format!("vectors: {what}"));
+    let text = String::from_utf8(read(&lines)?).map_err(|error| error.to_string())?;
+    match first_difference(same, &lines_of(&bytes)?, &text) {
+        None => Ok(bytes),
+        Some(what) => Err(format!("vectors, {}: {what}", lines.display())),
     }
-    for (at, piece) in pieces(&bytes).iter().enumerate() {
+}
+
+/// Runs the vectors: both standards, with the count, must give their lines, and the kernel must do what each says. Gives the
+/// number of records.
+pub fn check_vectors(folder: &Path, kernel: &mut Kernel) -> Result<u64, String> {
+    let bytes = vector_records(folder)?;
+    let records = pieces(&bytes);
+    for (at, piece) in records.iter().enumerate() {
         if let Piece::Whole(1, body) = piece
             && let Ok((task, _)) = decode_body(body)
         {
             solves::check(&task, kernel, &mut Rng::new(at as u64, 0))
+                .and_then(|()| signs::check(&task, kernel))
                 .map_err(|what| format!("vectors, record {}: {what}", at + 1))?;
         }
     }
-    Ok(own.len() as u64 - 1)
+    Ok(records.len() as u64)
 }
 
 // ---- damaged streams ----
@@ -385,14 +415,14 @@ fn feed(program: &Path, stream: &[u8], most: usize, rng: &mut Rng) -> Result<Str
 }
 
 fn check_stream(program: &Path, stream: &[u8], rng: &mut Rng) -> Result<u64, String> {
-    let wanted = lines_of(stream)?;
+    let wanted = lines_by(&ORIGINAL, stream)?;
     let most = if stream.len() < 5000 {
         rng.pick(&[1, 3, 7, 64])
     } else {
         rng.pick(&[100, 4096, 65536, 1 << 20])
     };
     let printed = feed(program, stream, most, rng)?;
-    match first_difference(&wanted, &printed) {
+    match first_difference(same_line, &wanted, &printed) {
         None => Ok(wanted.len() as u64 - 1),
         Some(what) => Err(format!("rowrun prints {what}")),
     }

@@ -1,9 +1,10 @@
-//! Prints the lines that `rowrun` must print for the records on standard input, by the original.
+//! Prints the lines that `rowrun` must print for the records on standard input: by the copy of the original that has the
+//! request's rule for zeros, after the original itself gave the same but for the signs of zeros, which depend on its build.
 
 use std::io::{Read, Write, stdin, stdout};
 use std::process::ExitCode;
 
-use compare::stream::lines_of;
+use compare::stream::{lines_of, text_of};
 
 fn main() -> ExitCode {
     let mut bytes = Vec::new();
@@ -12,13 +13,10 @@ fn main() -> ExitCode {
         return ExitCode::FAILURE;
     }
     match lines_of(&bytes) {
-        Ok(lines) => {
-            let text = lines.join("\n") + "\n";
-            match stdout().write_all(text.as_bytes()) {
-                Ok(()) => ExitCode::SUCCESS,
-                Err(_) => ExitCode::FAILURE,
-            }
-        }
+        Ok(lines) => match stdout().write_all(text_of(&lines).as_bytes()) {
+            Ok(()) => ExitCode::SUCCESS,
+            Err(_) => ExitCode::FAILURE,
+        },
         Err(what) => {
             eprintln!("{what}");
             ExitCode::FAILURE
