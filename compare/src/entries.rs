@@ -424,7 +424,7 @@ fn signed_recovery(rng: &mut Rng) -> Case {
     case
 }
 
-/// Every bit by the request's rule, of recovery most often: no other of these entries has a `min` or `max` that shows.
+/// Every bit with zeros in order, of recovery most often: in no other of these entries does a sign show the order.
 pub fn signs(kernel: &mut Kernel, rng: &mut Rng, cases: u64) -> Verdict {
     let draw = |rng: &mut Rng, number| match rng.below(8) {
         0 => normalizing(rng),

@@ -23,7 +23,7 @@ const USAGE: &str = "compare [options]
   --threads N        threads (2)
   --only NAME        the families whose name begins so
   --list             the families and their sizes
-  --vectors FOLDER   records.bin and records.out, or stdin and stdout (else RAVELSICKLE_VECTORS, else the repository's own)
+  --vectors FOLDER   records.bin and its lines, or stdin and stdout (else RAVELSICKLE_VECTORS, else the repository's own)
   --rowrun PROGRAM   the program that is fed damaged streams
   --no-rowrun        leave the program out
   --no-vectors       leave the vectors out

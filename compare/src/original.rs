@@ -63,7 +63,7 @@ pub trait Edition: Sync {
 pub const UNMODIFIED: &dyn Edition = &lp::reach::Text;
 /// The text with probes, which count readings as RULES 11 counts them, and branches.
 pub const COUNTED: &dyn Edition = &counted::reach::Text;
-/// The counted text with the request's order of zeros in `min` and `max` (`zeros::Ordered`).
+/// The counted text with `min` and `max` in which -0 is below +0 (`zeros::Ordered`).
 pub const ORDERED: &dyn Edition = &ordered::reach::Text;
 /// The counted text with `min` and `max` that give the left one of two equal numbers (`zeros::Left`).
 pub const LEFT: &dyn Edition = &left::reach::Text;

@@ -1,4 +1,4 @@
-//! Signs of zeros: solves of which every bit is held to the request's rule for `min` and `max`.
+//! Signs of zeros: solves of which every bit is held to the copy whose `min` and `max` order zeros.
 
 use crate::batch::{self, Kind};
 use crate::kernel::Kernel;

@@ -30,7 +30,7 @@ pub static ORIGINAL: Standard = Standard {
     other_signs: AtomicU64::new(0),
 };
 
-/// The request's order of zeros, beside the rule that it took the place of: every bit of a number.
+/// The copy in which zeros have an order, beside the one with the rule before that: every bit of a number.
 pub static SIGNS: Standard = Standard {
     copies: [ORDERED, LEFT],
     both_count: true,

@@ -127,13 +127,13 @@ fn lines_by(by: &Standard, bytes: &[u8]) -> Result<Vec<String>, String> {
     Ok(lines)
 }
 
-/// The lines that `rowrun` must print for a stream: those by the request's rule for zeros, which must be the original's but for
-/// the signs of zeros.
+/// The lines that `rowrun` must print for a stream: those by the copy whose `min` and `max` order zeros, which must be the
+/// original's but for the signs of zeros.
 pub fn lines_of(bytes: &[u8]) -> Result<Vec<String>, String> {
     let lines = lines_by(&SIGNS, bytes)?;
     match first_difference(same_line, &lines_by(&ORIGINAL, bytes)?, &text_of(&lines)) {
         None => Ok(lines),
-        Some(what) => Err(format!("by the rule for zeros {what}, the original's")),
+        Some(what) => Err(format!("with zeros in order {what}, the original's")),
     }
 }
 

@@ -4,7 +4,7 @@
 
 use std::cmp::Ordering;
 
-/// The request's rule, minimumNumber and maximumNumber of IEEE 754-2019: -0 is below +0, and a number beats a NaN.
+/// minimumNumber and maximumNumber of IEEE 754-2019: -0 is below +0, and a number beats a NaN.
 pub(crate) trait Ordered {
     fn lesser(self, other: Self) -> Self;
     fn greater(self, other: Self) -> Self;
@@ -31,7 +31,7 @@ fn outer(left: f64, right: f64, wanted: Ordering) -> f64 {
     }
 }
 
-/// The rule before the request: of two equal numbers the left one, and a number beats a NaN.
+/// The rule before that: of two equal numbers the left one, and a number beats a NaN.
 pub(crate) trait Left {
     fn lesser(self, other: Self) -> Self;
     fn greater(self, other: Self) -> Self;

@@ -1,5 +1,5 @@
-//! Prints the lines that `rowrun` must print for the records on standard input: by the copy of the original that has the
-//! request's rule for zeros, after the original itself gave the same but for the signs of zeros, which depend on its build.
+//! Prints the lines that `rowrun` must print for the records on standard input: by the copy of the original whose `min`
+//! and `max` order zeros, after the original itself gave the same but for the signs of zeros, which depend on how it is built.
 
 use std::io::{Read, Write, stdin, stdout};
 use std::process::ExitCode;
