@@ -419,7 +419,7 @@ fn signed_recovery(rng: &mut Rng) -> Case {
     if let Case::Recover(_, given) = &mut case
         && rng.once_in(4)
     {
-        given.bound = 0.0 * rng.sign();
+        given.bound = values::zero(rng);
     }
     case
 }

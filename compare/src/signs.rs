@@ -7,15 +7,12 @@ use crate::rng::Rng;
 use crate::solves::{self, Trial};
 use crate::standard::SIGNS;
 use crate::task::{Row, Task};
-
-fn zero(rng: &mut Rng) -> f64 {
-    0.0 * rng.sign()
-}
+use crate::values;
 
 /// A zero of either sign, or a small whole number, at times halved.
 fn small(rng: &mut Rng) -> f64 {
     if rng.once_in(2) {
-        zero(rng)
+        values::zero(rng)
     } else {
         rng.whole(-3, 3) as f64 * rng.pick(&[1.0, -1.0, 0.5])
     }
@@ -25,8 +22,8 @@ fn small(rng: &mut Rng) -> f64 {
 fn some_row(rng: &mut Rng, task: &Task) -> Row {
     let (a, b) = (small(rng), small(rng));
     match rng.below(4) {
-        0 => (a, b.abs().max(1.0), zero(rng)),
-        1 => (rng.sign(), zero(rng), small(rng)),
+        0 => (a, b.abs().max(1.0), values::zero(rng)),
+        1 => (rng.sign(), values::zero(rng), small(rng)),
         2 => (a, b, a * task.x0 + b * task.y0),
         _ => (a, b, small(rng)),
     }
@@ -40,7 +37,7 @@ pub fn signed_zeros(rng: &mut Rng) -> Task {
     task.y0 = match rng.below(4) {
         0 => 1e6,
         1 => small(rng),
-        _ => zero(rng),
+        _ => values::zero(rng),
     };
     task.feasibility = rng.pick(&[1e-9, 0.25, 0.5, 1.0, 2.0, 0.0, -0.0]);
     task.scale = rng.pick(&[10.0, 1.0, 0.1, 0.0, -0.0, -1.0]);
@@ -52,7 +49,7 @@ pub fn signed_zeros(rng: &mut Rng) -> Task {
 }
 
 /// Tasks of every family of solves, those with zeros most often, those of very many rows seldom.
-pub fn some_task(rng: &mut Rng) -> Task {
+fn some_task(rng: &mut Rng) -> Task {
     if !rng.once_in(3) {
         signed_zeros(rng)
     } else if rng.once_in(10_000) {

@@ -688,7 +688,7 @@ pub fn tolerances(rng: &mut Rng) -> Task {
     let odd = |rng: &mut Rng| match rng.below(8) {
         0 => values::nan(rng),
         1 => f64::INFINITY * rng.sign(),
-        2 => 0.0 * rng.sign(),
+        2 => values::zero(rng),
         3 => -values::ordinary(rng).abs(),
         4 => values::power(rng) * rng.sign(),
         5 => values::subnormal(rng),

@@ -57,6 +57,11 @@ pub fn nan(rng: &mut Rng) -> f64 {
     f64::from_bits(rng.pick(&NANS))
 }
 
+/// A zero of either sign.
+pub fn zero(rng: &mut Rng) -> f64 {
+    0.0 * rng.sign()
+}
+
 /// A value of either sign at which something changes.
 pub fn edge(rng: &mut Rng) -> f64 {
     rng.pick(&EDGES) * rng.sign()
@@ -105,7 +110,7 @@ pub fn special(rng: &mut Rng) -> f64 {
     match rng.below(8) {
         0 => nan(rng),
         1 => f64::INFINITY * rng.sign(),
-        2 => 0.0 * rng.sign(),
+        2 => zero(rng),
         3 => subnormal(rng),
         4 => edge(rng),
         5 => {
