@@ -282,8 +282,7 @@ fn say_branches(by: &str, all: bool) {
 const SIGNS_SHOW: u64 = 100_000;
 
 /// Says in how many answers of a family the sign of a zero shows the rule; whether that is as often as it must be.
-fn say_signs(cases: u64) -> bool {
-    let shown = standard::SIGNS.take_other_signs();
+fn say_signs(shown: u64, cases: u64) -> bool {
     println!("answers whose zero has another sign than by the left one: {shown} of {cases}");
     let enough = shown > 0 || cases < SIGNS_SHOW;
     if !enough {
@@ -355,9 +354,11 @@ fn run_all(options: &Options) -> Result<u64, ()> {
             continue;
         }
         let cases = (family.cases / options.share).max(1);
+        let shown_before = standard::SIGNS.other_signs();
         run_family(family, place, cases, options);
         total += cases;
-        if family.compares_signs() && !say_signs(cases) {
+        let shown = standard::SIGNS.other_signs() - shown_before;
+        if family.compares_signs() && !say_signs(shown, cases) {
             return Err(());
         }
         if place == LAST_SOLVES && options.only.is_empty() {

@@ -17,7 +17,6 @@ pub struct Standard {
     pub given: fn(f64) -> f64,
     /// How closely the kernel's numbers are held to the first copy's.
     pub alike: Alike,
-    /// In how many answers a zero of the second copy had the other sign.
     other_signs: AtomicU64,
 }
 
@@ -64,8 +63,8 @@ impl Standard {
         agree
     }
 
-    /// In how many answers a zero had the other sign, since this was asked before.
-    pub fn take_other_signs(&self) -> u64 {
-        self.other_signs.swap(0, Ordering::Relaxed)
+    /// In how many answers so far a zero of the second copy had the other sign.
+    pub fn other_signs(&self) -> u64 {
+        self.other_signs.load(Ordering::Relaxed)
     }
 }
