@@ -131,6 +131,7 @@ static struct ravelsickle_answer solve_each_way(const double *rows, size_t n, st
 static const double S3[6] = {1, 1, 2, -1, 1, 0};
 static const double S4[6] = {0, 1, 1, 0, -1, -2};
 static const double S5[6] = {-1, 0, 0, 1, 0, 1};
+static const double Z1[6] = {0, 1, 0, 1, 0, -1};
 
 static void test_root(void) {
     CHECK(bits(ravelsickle_root(2.0)) == UINT64_C(0x3FF6A09E667F3BCD)); /* R1 */
@@ -230,7 +231,7 @@ static void test_few_rows(void) {
     CHECK(is_answer(got, RAVELSICKLE_NOTHING, nan, nan, 1) && has_rows(got, -1, -1));
 }
 
-/* S3 to S5: two rows, active rows and counts. */
+/* S3 to S5 and Z1: two rows, active rows and counts, and the sign of a zero. */
 static void test_two_rows(void) {
     struct ravelsickle_task task = ravelsickle_usual_task();
     struct ravelsickle_answer got;
@@ -245,6 +246,9 @@ static void test_two_rows(void) {
     task.y0 = 999999;
     got = solve_each_way(S5, 2, task, left);
     CHECK(is_answer(got, RAVELSICKLE_POINT, 0.0, 999999, 8) && has_rows(got, -1, -1));
+    task.y0 = -0.0;
+    got = solve_each_way(Z1, 2, task, left);
+    CHECK(is_answer(got, RAVELSICKLE_POINT, -1.0, -0.0, 6) && has_rows(got, 0, 1));
 }
 
 /* Every number of a task reaches the solve: changing one of them changes what comes back. */

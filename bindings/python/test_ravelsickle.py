@@ -25,6 +25,7 @@ except ImportError:
 S3 = [1.0, 1.0, 2.0, -1.0, 1.0, 0.0]
 S4 = [0.0, 1.0, 1.0, 0.0, -1.0, -2.0]
 S5 = [-1.0, 0.0, 0.0, 1.0, 0.0, 1.0]
+Z1 = [0.0, 1.0, 0.0, 1.0, 0.0, -1.0]
 TILTED = [3.0, 4.0, 10.0, -3.0, 4.0, 10.0]
 TILTED_UNIT = [3 * 0.2, 0.8, 2.0, -3 * 0.2, 0.8, 2.0]
 # one row more than an entry takes
@@ -96,6 +97,11 @@ class Solving(Checked):
         self.solves(S3, Solved(Answer(1.0, 1.0), (0, 1), 7))
         self.solves(S4, Solved(Answer(0.0, 2.0), (1, None), 23))
         self.solves(S5, Solved(Answer(0.0, 1e24), (None, None), 28))
+
+    def test_z1_negative_zero_is_the_lesser(self):
+        got, _ = self.solve_each_way(Z1, start=WarmStart(0.0, -0.0))
+        self.assertEqual(got, Solved(Answer(-1.0, -0.0), (0, 1), 6))
+        self.assertEqual(bits(got.answer.y), bits(-0.0))
 
     def test_every_number_of_a_task_reaches_the_solve(self):
         start = WarmStart(0.0, 999999.0)

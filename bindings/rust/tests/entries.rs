@@ -5,6 +5,7 @@ use ravelsickle::*;
 const S3: [Row; 2] = [Row::new(1.0, 1.0, 2.0), Row::new(-1.0, 1.0, 0.0)];
 const S4: [Row; 2] = [Row::new(0.0, 1.0, 1.0), Row::new(0.0, -1.0, -2.0)];
 const S5: [Row; 2] = [Row::new(-1.0, 0.0, 0.0), Row::new(1.0, 0.0, 1.0)];
+const Z1: [Row; 2] = [Row::new(0.0, 1.0, 0.0), Row::new(1.0, 0.0, -1.0)];
 const TILTED: [Row; 2] = [Row::new(3.0, 4.0, 10.0), Row::new(-3.0, 4.0, 10.0)];
 const TILTED_UNIT: [Row; 2] = [
     Row::new(3.0 * 0.2, 0.8, 2.0),
@@ -88,6 +89,16 @@ fn s3_to_s5_two_rows() {
     assert_eq!(usual(&S3), solved(point(1.0, 1.0), Some(0), Some(1), 7));
     assert_eq!(usual(&S4), solved(point(0.0, 2.0), Some(1), None, 23));
     assert_eq!(usual(&S5), solved(point(0.0, 1e24), None, None, 28));
+}
+
+#[test]
+fn z1_negative_zero_is_the_lesser() {
+    let mut task = Task::default();
+    task.start.y = -0.0;
+    let (got, _) = solve_each_way(&Z1, &task, u64::MAX);
+    let got = got.expect("the solve finishes");
+    assert_eq!(got, solved(point(-1.0, -0.0), Some(0), Some(1), 6));
+    assert!(matches!(got.answer, Answer::Point { y, .. } if y.is_sign_negative()));
 }
 
 #[test]

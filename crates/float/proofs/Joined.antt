@@ -15,7 +15,7 @@ use Rattle.float.proofs.Order.{not-both, refuted}
 abbrev sign : Bool → ℕ
 sign s = cond s (2 ^ 63) 0
 
--- bits joined so that of the signs of two zeros the right one is left where `right` says so
+-- a way to join bits by which two zeros have the sign of the right one where `right` says so, else that of the left one
 module _ (join : ℕ → ℕ → ℕ) (right : Bool → Bool → Bool) (self : (a : ℕ) → join a a ≡ a)
     (of-signs : (s t : Bool) → join (sign s) (sign t) ≡ sign (if right s t then t else s))
     (x y : Float) (fits-x : T (fits binary64 x)) (fits-y : T (fits binary64 y)) (equal : x ≈ y ≡ true) where
@@ -47,6 +47,7 @@ module _ (join : ℕ → ℕ → ℕ) (right : Bool → Bool → Bool) (self : (
       by-signs false true s t = two-zeros (rw (s, t))
       by-signs false false s t = one-float (one-of-sign x y fits-x fits-y equal (s ∙ sym t)) (right (negative x) (negative y))
 
+-- the sign of either, for min, and of both, for max
 either-sign : (s t : Bool) → bitOr (sign s) (sign t) ≡ sign (if t && not s then t else s)
 unfolding if_then_else_
 either-sign true true = refl

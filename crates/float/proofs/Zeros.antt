@@ -74,14 +74,13 @@ zeros-of-both-signs (fin s m e) (fin t n d) h k =
 -- ---- equal, or one below the other
 
 level-back : (s : Bool) (a : ℕ) (t : Bool) (b : ℕ) → level s a t b ≡ true → level t b s a ≡ true
-level-back true a true b h = rw (eq-eqb b a (sym (equal-sizes true a true b h)))
-level-back false a false b h = rw (eq-eqb b a (sym (equal-sizes false a false b h)))
-level-back true a false b h =
-    let as-much = equal-sizes true a false b h in
-    rw (eq-eqb b a (sym as-much), eq-eqb b 0 (sym as-much ∙ opposed-vanishes true false a b h refl))
-level-back false a true b h =
-    let as-much = equal-sizes false a true b h in
-    rw (eq-eqb b a (sym as-much), eq-eqb b 0 (sym as-much ∙ opposed-vanishes false true a b h refl))
+level-back s a t b h = let as-much = equal-sizes s a t b h in rw as-much (signs-back s t (rw as-much at h))
+  where
+    signs-back : (s t : Bool) → level s b t b ≡ true → level t b s b ≡ true
+    signs-back true true h = h
+    signs-back true false h = h
+    signs-back false true h = h
+    signs-back false false h = h
 
 pub equal-back : (x y : Float) → x ≈ y ≡ true → y ≈ x ≡ true
 unfolding eq

@@ -24,7 +24,7 @@ finite nan = false
 finite (inf s) = false
 finite (fin s m e) = true
 
--- the sign, of a zero too
+-- the sign, which a zero has too
 unfoldable pub negative : Float → Bool
 negative nan = false
 negative (inf s) = s
