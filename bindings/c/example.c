@@ -4,12 +4,11 @@
  */
 #include "ravelsickle.h"
 
-#include <inttypes.h>
 #include <stdio.h>
 
-static void print_row(const char *name, bool there, size_t row) {
+static void print_row(const char *name, bool there, uint64_t row) {
     if (there) {
-        printf(", %s row %zu", name, row);
+        printf(", %s row %llu", name, (unsigned long long)row);
     } else {
         printf(", %s row -", name);
     }
@@ -32,7 +31,7 @@ static void print_answer(const struct ravelsickle_answer *answer) {
     }
     print_row("first", answer->has_first, answer->first);
     print_row("second", answer->has_second, answer->second);
-    printf(", readings %" PRIu64 "\n", answer->count);
+    printf(", readings %llu\n", (unsigned long long)answer->count);
 }
 
 static void solve_and_print(const char *what, struct ravelsickle_row *rows, size_t n, uint64_t allowance) {
@@ -45,9 +44,9 @@ static void solve_and_print(const char *what, struct ravelsickle_row *rows, size
     if (answer.refusal == RAVELSICKLE_DONE) {
         print_answer(&answer);
     } else if (answer.refusal == RAVELSICKLE_STOPPED) {
-        printf("not finished within %" PRIu64 " readings\n", answer.count);
+        printf("not finished within %llu readings\n", (unsigned long long)answer.count);
     } else {
-        printf("refused %" PRIu64 "\n", answer.refusal);
+        printf("refused %llu\n", (unsigned long long)answer.refusal);
     }
 }
 

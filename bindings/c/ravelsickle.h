@@ -2,9 +2,12 @@
  * Ravelsickle for C and C++: the highest y under half-planes a*x + b*y <= c, within a number of row readings that is
  * known beforehand.
  *
- * Link the static library that `rt staticlib kernel` writes (target/staticlib/libkernel.a, for x86-64). It calls C's
- * memset and memcpy and nothing else, allocates nothing and keeps nothing between calls, so that threads may call it at
- * once on rows, and links, of their own.
+ * Link the static library that `rt staticlib kernel` writes (target/staticlib/libkernel.a, for x86-64), or one that
+ * `boards/run` builds for a board. It calls C's memset and memcpy and nothing else, on a board without a float unit for
+ * doubles also the routines that stand for one; it allocates nothing and keeps nothing between calls, so that threads may
+ * call it at once on rows, and links, of their own.
+ *
+ * Lengths and row numbers have 64 bits on every processor, whatever its size_t is.
  *
  * One convention for every entry: rows are lent, and may be changed in place; everything else goes in by value, in one
  * record where it is more than a number or two; and what comes back is a record by value, whose first number is the
@@ -23,7 +26,6 @@
 #define RAVELSICKLE_H
 
 #include <stdbool.h>
-#include <stddef.h>
 #include <stdint.h>
 
 #ifdef __cplusplus
@@ -82,7 +84,7 @@ struct ravelsickle_task {
     double feasibility; /* by how much a point may violate a row (the original's usual: 1e-9) */
     double scale;       /* what multiplies it in a reduction to one dimension (usual: 10) */
     double x0, y0;      /* where to start (without knowledge: 0 and RAVELSICKLE_BEYOND) */
-    size_t skip;        /* how many leading rows the start is known to meet (without knowledge: 0) */
+    uint64_t skip;      /* how many leading rows the start is known to meet (without knowledge: 0) */
     uint64_t normalize; /* one of enum ravelsickle_normalize; any other number is refusal 10 */
     uint64_t allowance; /* the most row readings that may be taken */
 };
@@ -92,8 +94,8 @@ struct ravelsickle_answer {
     uint64_t refusal; /* 0, 1, 2, 3 or 10 */
     uint64_t kind;    /* one of enum ravelsickle_kind */
     double x, y;
-    uint64_t count;       /* the row readings taken */
-    size_t first, second; /* the active rows, counted from 0 */
+    uint64_t count;         /* the row readings taken */
+    uint64_t first, second; /* the active rows, counted from 0 */
     bool has_first, has_second;
 };
 
@@ -124,12 +126,12 @@ struct ravelsickle_bounds {
 
 /* What to recover. The flags and row numbers are the collector, the active rows of the caller. */
 struct ravelsickle_recovery_task {
-    size_t upto;    /* how many leading rows the point must hold for */
+    uint64_t upto;  /* how many leading rows the point must hold for */
     double x0, y0;  /* where a solve's usual step failed */
     double bound;   /* half the width of the box that the problem is posed over */
     double epsilon; /* by how much a point may violate a row */
     double reduced; /* the same in a reduction to one dimension */
-    size_t first, second;
+    uint64_t first, second;
     bool has_first, has_second;
 };
 
@@ -137,7 +139,7 @@ struct ravelsickle_recovery_task {
 struct ravelsickle_recovered {
     uint64_t refusal; /* 0, 1, 2, 7 or 6 */
     double x, y;
-    size_t first, second;
+    uint64_t first, second;
     bool has_first, has_second;
 };
 
@@ -151,10 +153,21 @@ double ravelsickle_fused(double x, double y, double z);
  * Scales the rows in place, so that each has a unit normal. A row whose norm is zero or not finite becomes zeros.
  * Gives 0, or refusal 1 or 2, which leave the rows unchanged.
  */
-uint64_t ravelsickle_normalize(double *rows, size_t floats);
+uint64_t ravelsickle_normalize(double *rows, uint64_t floats);
+
+/*
+ * C for Arm with the hard-float convention hands a struct of doubles alone over in float registers; the library takes two
+ * rows by value as it takes every record, by Arm's base convention.
+ */
+#ifdef __ARM_PCS_VFP
+#define RAVELSICKLE_BASE_CONVENTION __attribute__((pcs("aapcs")))
+#else
+#define RAVELSICKLE_BASE_CONVENTION
+#endif
 
 /* The point at which both rows hold with equality. Refusal: 5. */
-struct ravelsickle_crossing ravelsickle_solve_2x2(struct ravelsickle_row r, struct ravelsickle_row s);
+struct ravelsickle_crossing ravelsickle_solve_2x2(struct ravelsickle_row r, struct ravelsickle_row s)
+    RAVELSICKLE_BASE_CONVENTION;
 
 /*
  * The highest and the lowest t with a*t <= b for every pair (a, b); infinite where no pair bounds it. Both are NaN where
@@ -162,7 +175,7 @@ struct ravelsickle_crossing ravelsickle_solve_2x2(struct ravelsickle_row r, stru
  * middle where they are within the tolerance of each other, else NaN.
  * Refusals: 1, 2.
  */
-struct ravelsickle_bounds ravelsickle_lp_1d(const double *pairs, size_t floats, struct ravelsickle_line_task task);
+struct ravelsickle_bounds ravelsickle_lp_1d(const double *pairs, uint64_t floats, struct ravelsickle_line_task task);
 
 /*
  * The highest y under the rows, with the rows that hold it and the number of row readings it took.
@@ -171,21 +184,21 @@ struct ravelsickle_bounds ravelsickle_lp_1d(const double *pairs, size_t floats, 
  * allowance as its count and no active rows; it leaves the rows as after the last normalisation all of whose readings
  * fitted.
  */
-struct ravelsickle_answer ravelsickle_solve(double *rows, size_t floats, struct ravelsickle_task task);
+struct ravelsickle_answer ravelsickle_solve(double *rows, uint64_t floats, struct ravelsickle_task task);
 
 /*
  * ravelsickle_solve over an array of rows: the same answers, and the same is left in the rows. Refusal 1 cannot come. The
  * rows are copied and copied back, by way of 96 KiB of stack; ravelsickle_solve takes the same memory as it is, with
  * &rows->a and 3 * rows_count.
  */
-struct ravelsickle_answer ravelsickle_solve_rows(struct ravelsickle_row *rows, size_t rows_count,
+struct ravelsickle_answer ravelsickle_solve_rows(struct ravelsickle_row *rows, uint64_t rows_count,
                                                  struct ravelsickle_task task);
 
 /*
  * The original's own entry: the same answer, without active rows or count. The task's allowance is not looked at.
  * Refusals: 1, 2, 10, which leave the rows unchanged.
  */
-struct ravelsickle_solution ravelsickle_lp_2d_incre_max_y(double *rows, size_t floats, struct ravelsickle_task task);
+struct ravelsickle_solution ravelsickle_lp_2d_incre_max_y(double *rows, uint64_t floats, struct ravelsickle_task task);
 
 /*
  * A point that holds for the first `upto` rows, after a solve's usual step failed at (x0, y0).
@@ -194,7 +207,7 @@ struct ravelsickle_solution ravelsickle_lp_2d_incre_max_y(double *rows, size_t f
  * (x0, y0) itself and no row's boundary gave one. A refusal gives back the collector that was given.
  * Refusals, in this order: 1, 2, 7, 6.
  */
-struct ravelsickle_recovered ravelsickle_recover_2d_prefix(const double *rows, size_t floats,
+struct ravelsickle_recovered ravelsickle_recover_2d_prefix(const double *rows, uint64_t floats,
                                                            struct ravelsickle_recovery_task task);
 
 /*
@@ -230,18 +243,18 @@ struct ravelsickle_recovered ravelsickle_recover_2d_prefix(const double *rows, s
 
 /* The numbers of a reader between two portions. A link keeps them; nobody else has to look. */
 struct ravelsickle_reader {
-    uint64_t live;  /* 1 from the start until the end is told */
-    uint64_t lines; /* lines printed so far */
-    uint64_t left;  /* bytes that may still come and count */
-    size_t passed;  /* bytes taken of the record in hand */
-    uint64_t word;  /* the bytes of a float of its rows that is not all there, the latest on top */
+    uint64_t live;   /* 1 from the start until the end is told */
+    uint64_t lines;  /* lines printed so far */
+    uint64_t left;   /* bytes that may still come and count */
+    uint64_t passed; /* bytes taken of the record in hand */
+    uint64_t word;   /* the bytes of a float of its rows that is not all there, the latest on top */
 };
 
 /* What an entry leaves. */
 struct ravelsickle_fed {
     uint64_t refusal; /* 0 or 12 */
-    size_t taken;     /* bytes of the portion that were taken */
-    size_t printed;   /* bytes of text at the start of what was lent for it */
+    uint64_t taken;   /* bytes of the portion that were taken */
+    uint64_t printed; /* bytes of text at the start of what was lent for it */
     struct ravelsickle_reader reader;
 };
 
@@ -255,8 +268,9 @@ struct ravelsickle_fed {
 struct ravelsickle_reader ravelsickle_reader_start(uint64_t limit);
 struct ravelsickle_fed ravelsickle_reader_feed(struct ravelsickle_reader reader, unsigned char head[RAVELSICKLE_HEAD],
                                                double rows[RAVELSICKLE_FLOATS], const unsigned char *bytes,
-                                               size_t bytes_count, unsigned char text[RAVELSICKLE_LINE]);
-struct ravelsickle_fed ravelsickle_reader_end(struct ravelsickle_reader reader, const unsigned char head[RAVELSICKLE_HEAD],
+                                               uint64_t bytes_count, unsigned char text[RAVELSICKLE_LINE]);
+struct ravelsickle_fed ravelsickle_reader_end(struct ravelsickle_reader reader,
+                                              const unsigned char head[RAVELSICKLE_HEAD],
                                               unsigned char text[RAVELSICKLE_LINE]);
 
 /* A link: the reader and its memory, RAVELSICKLE_LINK_BYTES bytes. A link of zeros is one that was not started. */
@@ -272,13 +286,13 @@ struct ravelsickle_link {
 /* What a call did. */
 struct ravelsickle_step {
     uint64_t refusal; /* 0 or 12 */
-    size_t taken;     /* bytes of the portion that were taken: up to the first record's end, or all */
-    size_t printed;   /* bytes of text in the link's `line`: a record's line, or none; at the end the last lines */
+    uint64_t taken;   /* bytes of the portion that were taken: up to the first record's end, or all */
+    uint64_t printed; /* bytes of text in the link's `line`: a record's line, or none; at the end the last lines */
 };
 
 /* Starts a link anew: it has seen nothing. */
 static inline void ravelsickle_link_start(struct ravelsickle_link *link) {
-    size_t at;
+    int at;
     for (at = 0; at < RAVELSICKLE_FLOATS; at++) {
         link->rows[at] = 0.0;
     }
@@ -306,7 +320,7 @@ static inline struct ravelsickle_step ravelsickle_link_step(struct ravelsickle_l
  * again. The line of a record that ended is in link->line. No bytes change nothing. Refusal: 12.
  */
 static inline struct ravelsickle_step ravelsickle_link_feed(struct ravelsickle_link *link, const unsigned char *bytes,
-                                                            size_t bytes_count) {
+                                                            uint64_t bytes_count) {
     return ravelsickle_link_step(
         link, ravelsickle_reader_feed(link->reader, link->head, link->rows, bytes, bytes_count, link->line));
 }

@@ -101,7 +101,7 @@ static void relay_with_bytes(struct relay_call *call, const double *lent, double
 
 static void relay(struct relay_call *call, const double *lent, double *back) { relay_with_bytes(call, lent, back, NULL); }
 
-static struct relay_call call_of(enum relay_entry entry, size_t floats) {
+static struct relay_call call_of(enum relay_entry entry, uint64_t floats) {
     struct relay_call call;
     memset(&call, 0, sizeof call);
     call.entry = entry;
@@ -125,7 +125,7 @@ double ravelsickle_fused(double x, double y, double z) {
     return call.got.number;
 }
 
-uint64_t ravelsickle_normalize(double *rows, size_t floats) {
+uint64_t ravelsickle_normalize(double *rows, uint64_t floats) {
     struct relay_call call = call_of(RELAY_NORMALIZE, floats);
     relay(&call, rows, rows);
     return call.got.refusal;
@@ -139,7 +139,7 @@ struct ravelsickle_crossing ravelsickle_solve_2x2(struct ravelsickle_row r, stru
     return call.got.crossing;
 }
 
-struct ravelsickle_bounds ravelsickle_lp_1d(const double *pairs, size_t floats, struct ravelsickle_line_task task) {
+struct ravelsickle_bounds ravelsickle_lp_1d(const double *pairs, uint64_t floats, struct ravelsickle_line_task task) {
     struct relay_call call = call_of(RELAY_LP_1D, floats);
     call.given.line = task;
     relay(&call, pairs, NULL);
@@ -147,27 +147,27 @@ struct ravelsickle_bounds ravelsickle_lp_1d(const double *pairs, size_t floats, 
 }
 
 /* Any of the three solves. */
-static union relay_got relay_solve(enum relay_entry entry, double *rows, size_t floats, struct ravelsickle_task task) {
+static union relay_got relay_solve(enum relay_entry entry, double *rows, uint64_t floats, struct ravelsickle_task task) {
     struct relay_call call = call_of(entry, floats);
     call.given.task = task;
     relay(&call, rows, rows);
     return call.got;
 }
 
-struct ravelsickle_answer ravelsickle_solve(double *rows, size_t floats, struct ravelsickle_task task) {
+struct ravelsickle_answer ravelsickle_solve(double *rows, uint64_t floats, struct ravelsickle_task task) {
     return relay_solve(RELAY_SOLVE, rows, floats, task).answer;
 }
 
-struct ravelsickle_answer ravelsickle_solve_rows(struct ravelsickle_row *rows, size_t rows_count,
+struct ravelsickle_answer ravelsickle_solve_rows(struct ravelsickle_row *rows, uint64_t rows_count,
                                                  struct ravelsickle_task task) {
     return relay_solve(RELAY_SOLVE_ROWS, (double *)rows, 3 * rows_count, task).answer;
 }
 
-struct ravelsickle_solution ravelsickle_lp_2d_incre_max_y(double *rows, size_t floats, struct ravelsickle_task task) {
+struct ravelsickle_solution ravelsickle_lp_2d_incre_max_y(double *rows, uint64_t floats, struct ravelsickle_task task) {
     return relay_solve(RELAY_INCRE_MAX_Y, rows, floats, task).solution;
 }
 
-struct ravelsickle_recovered ravelsickle_recover_2d_prefix(const double *rows, size_t floats,
+struct ravelsickle_recovered ravelsickle_recover_2d_prefix(const double *rows, uint64_t floats,
                                                            struct ravelsickle_recovery_task task) {
     struct relay_call call = call_of(RELAY_RECOVER, floats);
     call.given.recovery = task;
@@ -184,7 +184,7 @@ struct ravelsickle_reader ravelsickle_reader_start(uint64_t limit) {
 
 struct ravelsickle_fed ravelsickle_reader_feed(struct ravelsickle_reader reader, unsigned char head[RAVELSICKLE_HEAD],
                                                double rows[RAVELSICKLE_FLOATS], const unsigned char *bytes,
-                                               size_t bytes_count, unsigned char text[RAVELSICKLE_LINE]) {
+                                               uint64_t bytes_count, unsigned char text[RAVELSICKLE_LINE]) {
     struct relay_call call = call_of(RELAY_READER_FEED, RAVELSICKLE_FLOATS);
     call.given.reader = reader;
     call.bytes = bytes_count;

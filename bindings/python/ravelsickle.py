@@ -168,7 +168,6 @@ _REASONS = {
 
 _double = ctypes.c_double
 _number = ctypes.c_uint64
-_size = ctypes.c_size_t
 _flag = ctypes.c_bool
 _floats = ctypes.POINTER(ctypes.c_double)
 _bytes = ctypes.c_void_p
@@ -184,7 +183,7 @@ class _Task(ctypes.Structure):
         ("scale", _double),
         ("x0", _double),
         ("y0", _double),
-        ("skip", _size),
+        ("skip", _number),
         ("normalize", _number),
         ("allowance", _number),
     ]
@@ -197,8 +196,8 @@ class _Answered(ctypes.Structure):
         ("x", _double),
         ("y", _double),
         ("count", _number),
-        ("first", _size),
-        ("second", _size),
+        ("first", _number),
+        ("second", _number),
         ("has_first", _flag),
         ("has_second", _flag),
     ]
@@ -222,14 +221,14 @@ class _LineBounds(ctypes.Structure):
 
 class _RecoveryTask(ctypes.Structure):
     _fields_ = [
-        ("upto", _size),
+        ("upto", _number),
         ("x0", _double),
         ("y0", _double),
         ("bound", _double),
         ("epsilon", _double),
         ("reduced", _double),
-        ("first", _size),
-        ("second", _size),
+        ("first", _number),
+        ("second", _number),
         ("has_first", _flag),
         ("has_second", _flag),
     ]
@@ -240,19 +239,19 @@ class _Recovered(ctypes.Structure):
         ("refusal", _number),
         ("x", _double),
         ("y", _double),
-        ("first", _size),
-        ("second", _size),
+        ("first", _number),
+        ("second", _number),
         ("has_first", _flag),
         ("has_second", _flag),
     ]
 
 
 class _Reader(ctypes.Structure):
-    _fields_ = [("live", _number), ("lines", _number), ("left", _number), ("passed", _size), ("word", _number)]
+    _fields_ = [("live", _number), ("lines", _number), ("left", _number), ("passed", _number), ("word", _number)]
 
 
 class _Fed(ctypes.Structure):
-    _fields_ = [("refusal", _number), ("taken", _size), ("printed", _size), ("reader", _Reader)]
+    _fields_ = [("refusal", _number), ("taken", _number), ("printed", _number), ("reader", _Reader)]
 
 
 # The bytes of a record before its rows, the floats of the most rows that a record may have, and room for any text that a
@@ -266,14 +265,14 @@ _LINE = 149
 _ENTRIES = {
     "ravelsickle_root": (_double, [_double]),
     "ravelsickle_fused": (_double, [_double] * 3),
-    "ravelsickle_normalize": (_number, [_floats, _size]),
+    "ravelsickle_normalize": (_number, [_floats, _number]),
     "ravelsickle_solve_2x2": (_Crossing, [_Row, _Row]),
-    "ravelsickle_lp_1d": (_LineBounds, [_floats, _size, _LineTask]),
-    "ravelsickle_solve": (_Answered, [_floats, _size, _Task]),
-    "ravelsickle_lp_2d_incre_max_y": (_Solution, [_floats, _size, _Task]),
-    "ravelsickle_recover_2d_prefix": (_Recovered, [_floats, _size, _RecoveryTask]),
+    "ravelsickle_lp_1d": (_LineBounds, [_floats, _number, _LineTask]),
+    "ravelsickle_solve": (_Answered, [_floats, _number, _Task]),
+    "ravelsickle_lp_2d_incre_max_y": (_Solution, [_floats, _number, _Task]),
+    "ravelsickle_recover_2d_prefix": (_Recovered, [_floats, _number, _RecoveryTask]),
     "ravelsickle_reader_start": (_Reader, [_number]),
-    "ravelsickle_reader_feed": (_Fed, [_Reader, _bytes, _floats, _bytes, _size, _bytes]),
+    "ravelsickle_reader_feed": (_Fed, [_Reader, _bytes, _floats, _bytes, _number, _bytes]),
     "ravelsickle_reader_end": (_Fed, [_Reader, _bytes, _bytes]),
 }
 
@@ -464,20 +463,15 @@ def _whole(value: int, what: str, width: int) -> int:
     return number
 
 
-def _index(value: int, what: str) -> int:
-    """A whole number that a size_t holds."""
-    return _whole(value, what, 8 * ctypes.sizeof(_size))
-
-
 def _task(start: WarmStart, tolerances: Tolerances, normalize: bool, allowance: int) -> _Task:
-    skip = _index(start.skip, "the number of rows to skip")
+    skip = _whole(start.skip, "the number of rows to skip", 64)
     allowed = _whole(allowance, "an allowance", 64)
     return _Task(tolerances.feasibility, tolerances.scale, start.x, start.y, skip, 1 if normalize else 0, allowed)
 
 
 def _row_number(row: Optional[int]) -> int:
     """A row's number; without a row it says nothing."""
-    return 0 if row is None else _index(row, "a row's number")
+    return 0 if row is None else _whole(row, "a row's number", 64)
 
 
 def _row(has: bool, number: int) -> Optional[int]:
@@ -573,7 +567,7 @@ def recover(rows, upto: int, at: Tuple[float, float], frame: Frame, collector: C
 
     Refusals 1, 2, 7 and 6, which leave the collector."""
     task = _RecoveryTask(
-        _index(upto, "a prefix"),
+        _whole(upto, "a prefix", 64),
         *at,
         frame.bound,
         frame.epsilon,

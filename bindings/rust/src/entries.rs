@@ -3,6 +3,10 @@
 
 use crate::Row;
 
+// C's lengths and row numbers have 64 bits on every processor, and below they are `usize`.
+#[cfg(not(target_pointer_width = "64"))]
+compile_error!("this crate is for processors whose usize has 64 bits; on a smaller one, call the C header's entries");
+
 /// `RAVELSICKLE_HEAD`: the bytes of a record before its rows.
 pub(crate) const HEAD: usize = 55;
 
