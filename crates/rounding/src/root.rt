@@ -1,4 +1,4 @@
-// The square root, digit by digit: no divide and no multiply.
+// The square root, digit by digit, by comparison, addition, subtraction, shifts and masks alone: no divide and no multiply.
 ghost use mathlib.Core.Path.{_≡_};
 ghost use Prim.Native.Nat.{_+_, _*_, _^_, _≤_, _<_};
 ghost use lib.Ieee.{binary64, ofBits};
