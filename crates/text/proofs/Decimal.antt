@@ -1,17 +1,15 @@
--- `io`'s fewest digits of a number are its decimal digits, of which there are as many as have room. Assumes nothing.
-use mathlib.Core.Path.{_≡_}
+-- The decimal digits of a number: there are no more than have room, and they can be spelled one by one from the last to the first. Assumes nothing.
+use mathlib.Core.Path.{_≡_, _∙_}
 use mathlib.Core.Bool.{Bool, true, false}
-use mathlib.Core.Logic.{⊎-elim}
-use mathlib.Core.List.{List, [], _∷_, _++_}
-use Prim.Native.Nat.{ℕ, zero, suc, _-_, _/_, _%_, _^_, _≤_, _<_}
-use native.Mathlib.Nat.{mod-eq-of-lt, pow-le-pow-right, eq-zero-or-pos}
+use mathlib.Core.List.{List, [], _∷_, _++_, append-nil, append-assoc}
+use Prim.Native.Nat.{ℕ, zero, suc, _+_, _/_, _%_, _^_, _≤_, _<_}
 use native.Mathlib.Omega.{arith}
-use native.Mathlib.Numerals.{sub-one}
-use lib.Dec.{ltb, lit<}
-use lib.ListN.{length, length-append}
+use native.Mathlib.Numerals.{add-one}
+use lib.Dec.{ltb}
+use lib.ListN.{length, drop, set, length-append, length-set, drop-of-length-le}
+use lib.Seq.{drop-cons, getD-set-same, drop-set-lt}
 use borrow.Author.Tests.{lt-ltb, le-ltb}
 use Rattle.float.specs.Operators.{if_then_else_}
-use Rattle.io.specs.Digits.{digits, Fewest}
 use Rattle.text.specs.Sizes.{longestDecimal}
 use Rattle.text.specs.Text.{glyph, decimalWithin, decimal}
 
@@ -29,35 +27,30 @@ pub decimal-length : (n : ℕ) → length (decimal n) ≤ longestDecimal
 unfolding decimal
 decimal-length n = within-length longestDecimal n
 
--- without its last digit a number of several digits has one digit less
-fewer : (r n : ℕ) → Fewest 10 1 n (suc (suc r)) → (10 ≤ n) × Fewest 10 1 (n / 10) (suc r)
-fewer r n f =
-    let least = rw (sub-one (suc (suc r))) at (f .2 (omega arith)) in
-    let one = pow-le-pow-right {n = 10} (lit< tt) {i = 0} {j = r} (omega arith) in
-    let most : n / 10 < 10 ^ suc r = omega arith in
-    (omega arith, (omega arith, most, λ h. rw (sub-one (suc r)) (omega arith)))
+-- ---- spelled from the last to the first: behind `at` stand digits, and `rest` is the number that they leave
 
-same-digits : (k r n : ℕ) → r ≤ k → Fewest 10 1 n r → digits 10 r n ≡ decimalWithin k n
-unfolding decimalWithin glyph if_then_else_
-same-digits zero r n within f = absurd (omega arith)
-same-digits (suc k) zero n within f = absurd (omega arith)
-same-digits (suc k) (suc zero) n within f = rw (mod-eq-of-lt (f .1), lt-ltb n 10 (f .1))
-same-digits (suc k) (suc (suc r)) n within f =
-    let g = fewer r n f in
-    let digit : n % 10 < 10 = omega arith in
-    rw (le-ltb n 10 (g .0), lt-ltb (n % 10) 10 digit, same-digits k (suc r) (n / 10) (omega arith) (g .1))
-
-pub few-digits : (r n : ℕ) → n < 2 ^ 64 → Fewest 10 1 n r → r ≤ longestDecimal
-unfolding longestDecimal
-few-digits r n small f =
-    ⊎-elim
-    (λ none. omega arith)
-    (λ more.
-    let least = f .2 (omega arith) in
-    let large = pow-le-pow-right {n = 10} (lit< tt) {i = longestDecimal} {j = r - 1} (omega arith) in
-    absurd (omega arith))
-    (eq-zero-or-pos (r - longestDecimal))
-
-pub fewest-decimal : (r n : ℕ) → n < 2 ^ 64 → Fewest 10 1 n r → digits 10 r n ≡ decimal n
+pub none-spelled : (n : ℕ) (digits : List ℕ) → length digits ≡ longestDecimal → decimalWithin longestDecimal n ++ drop longestDecimal digits ≡ decimal n
 unfolding decimal
-fewest-decimal r n small f = same-digits longestDecimal r n (few-digits r n small f) f
+none-spelled n digits filled =
+    let none = drop-of-length-le digits {i = longestDecimal} (omega arith) in
+    rw none (append-nil (decimal n))
+
+-- a number of several digits does not fit into the first place
+pub place-left : (rest at : ℕ) → 9 < rest → rest < 10 ^ (at + 1) → 0 < at
+place-left rest zero several fits = absurd (omega arith)
+place-left rest (suc k) several fits = omega arith
+
+digit-put : (digits : List ℕ) (at d : ℕ) → at < length digits → drop at (set digits at d) ≡ d ∷ drop (suc at) digits
+digit-put digits at d inside =
+    rw (drop-cons (set digits at d) at 0 (simp length-set inside), getD-set-same, drop-set-lt (suc at) digits at d (omega arith))
+
+module _ (n rest at : ℕ) (digits : List ℕ) (inside : at < length digits) (left : decimalWithin (at + 1) rest ++ drop (at + 1) digits ≡ decimal n) where
+  pub one-more-spelled : 9 < rest → decimalWithin at (rest / 10) ++ drop at (set digits at (48 + rest % 10)) ≡ decimal n
+  unfolding decimalWithin glyph if_then_else_
+  one-more-spelled several =
+      let last = digit-put digits at (48 + rest % 10) inside in
+      rw last (rw (add-one at, le-ltb rest 10 (omega arith), lt-ltb (rest % 10) 10 (omega arith), append-assoc) at left)
+
+  pub all-spelled : rest ≤ 9 → drop at (set digits at (48 + rest)) ≡ decimal n
+  unfolding decimalWithin glyph if_then_else_
+  all-spelled one = digit-put digits at (48 + rest) inside ∙ rw (add-one at, lt-ltb rest 10 (omega arith)) at left

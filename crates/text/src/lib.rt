@@ -3,8 +3,8 @@ use line::Slot;
 use solve::Answer;
 use solve::Outcome;
 ghost use mathlib.Core.Path.{_≡_};
-ghost use Prim.Native.Nat.{_+_, _≤_, _<_};
-ghost use lib.ListN.{length};
+ghost use Prim.Native.Nat.{_+_, _*_, _/_, _^_, _≤_, _<_};
+ghost use lib.ListN.{length, drop};
 ghost use Rattle.text.specs.Sizes.{longestDecimal, longestNumber, longestFloat, longestAnswer, longestRefusal, longestOutcome, longestLine, longestEnd};
 ghost use Rattle.text.specs.Text.{written, decimal, hex};
 ghost use Rattle.text.specs.Text.{glyph as Text·glyph};
@@ -56,14 +56,55 @@ fn put_hex(out: &mut [u8], at: usize, n: u64) -> usize
     at + i
 }
 
+// A tenth of a number of two halves of 32 bits each, rounded down. Where the upper half is 10 * p + r and the lower 10 * q + s, the number is
+// 10 * (p * 2^32 + r * 429,496,729 + q) + 6 * r + s, since 2^32 is 10 * 429,496,729 + 6.
+fn tenth_of_halves(high: u32, low: u32) -> u64
+    ensures { λ t. ⌜ t ≡ (high * 2 ^ 32 + low) / 10 ⌝ }
+{
+    let r = high % 10;
+    let carried = (6 * r + low % 10) / 10;
+    (((high / 10) as u64) << 32) + r as u64 * 429_496_729 + (low / 10) as u64 + carried as u64
+}
+
+// A tenth of n, rounded down. A board that divides 64 bits in software would call a routine for n / 10; numbers of 32 bits it divides by itself.
+fn tenth(n: u64) -> u64
+    ensures { λ t. ⌜ t ≡ n / 10 ⌝ }
+{
+    let low = (n & 0xffff_ffff) as u32;
+    if n <= 0xffff_ffff {
+        return (low / 10) as u64;
+    }
+    tenth_of_halves((n >> 32) as u32, low)
+}
+
+// Puts the decimal digits of n at the end of `digits`, and answers where they begin.
+fn spell(n: u64, digits: &mut [u8]) -> usize
+    requires { ⌜ length (now digits) ≡ longestDecimal ⌝ }
+    ensures begin { λ r. ⌜ r < longestDecimal ⌝ }
+    ensures digits { λ r. ⌜ drop r (now (digits .exit)) ≡ decimal n ⌝ }
+{
+    let mut rest = n;
+    let mut at = DIGITS - 1;
+    while rest > 9 {
+        let next = tenth(rest);
+        digits[at] = 48 + (rest - 10 * next) as u8;
+        rest = next;
+        at -= 1;
+    }
+    digits[at] = 48 + rest as u8;
+    at
+}
+
 fn put_decimal(out: &mut [u8], at: usize, n: u64) -> usize
     requires { ⌜ at + longestDecimal ≤ length (now out) ⌝ }
     ensures end { λ r. ⌜ r ≡ at + length (decimal n) ⌝ }
     ensures out { λ _. ⌜ now (out .exit) ≡ written (now (out .entry)) at (decimal n) ⌝ }
 {
     let mut digits = [0u8; DIGITS];
-    let k = io::decimal(n, &mut digits);
-    put(out, at, &digits[..k])
+    let room: &mut [u8] = &mut digits;
+    let begin = spell(n, room);
+    let spelled = &room[..];
+    put(out, at, &spelled[begin..])
 }
 
 // ---- words, each with the blank before it

@@ -1,44 +1,43 @@
--- `text::put_decimal` meets its contract: what `io::decimal` spells are the decimal digits. Assumes nothing.
-use mathlib.Core.Path.{_∙_}
+-- `text::put_decimal` meets its contract. Assumes nothing.
 use native.Mathlib.Omega.{arith}
 use borrow.Author.Needs.{needs}
-use Rattle.text.proofs.Decimal.{few-digits, fewest-decimal}
+use borrow.Rule.Slice.PartAt.{part-to-end}
+use lib.ListN.{length-take, length-drop}
+use Rattle.text.specs.Sizes.{longestDecimal}
 use Rattle.text.proofs.put_decimal.Statement.{statement}
 use Rattle.text.proofs.put_decimal.Tie as tie
 
-decimal-requires : tie.Need-decimal-requires
-decimal-requires c κs = search needs
+slice-aggregate-room : tie.Need-slice-aggregate-room
+slice-aggregate-room c = search needs
 
-array-share-prefix-digits : tie.Need-array-share-prefix-digits
-array-share-prefix-digits c = search needs
+spell-requires : tie.Need-spell-requires
+unfolding longestDecimal
+spell-requires c κs = search needs
 
-slice-aggregate-put : tie.Need-slice-aggregate-put
-slice-aggregate-put c = search needs
+sub-put : tie.Need-sub-put
+unfolding longestDecimal
+sub-put c = search needs
+
+part-put-start : tie.Need-part-put-start
+unfolding longestDecimal
+part-put-start c = search needs
+
+part-put-end : tie.Need-part-put-end
+part-put-end c = search needs
 
 put-requires : tie.Need-put-requires
-put-requires c κs =
-    let a = c .before .before .before .before .before .args in
-    let d = c .before .before .decimal in
-    let few = few-digits (d .result) (a .n) (omega arith) (d .ensures .1 .0) in
-    omega arith
+unfolding longestDecimal
+put-requires c κs = simp (length-take, length-drop) (omega arith)
 
 same-length : tie.Need-same-length
 same-length c = search needs
 
 returns : tie.Need-returns
 returns c =
-    let a = c .before .before .before .before .before .before .before .before .args in
-    let d = c .before .before .before .before .before .decimal in
-    let text = d .ensures .1 .1 ∙ fewest-decimal (d .result) (a .n) (omega arith) (d .ensures .1 .0) in
-    rw text at (c .before .before .put .ensures)
+    let spelled = c .before .before .before .before .before .before .before .before .before .spell in
+    rw (part-to-end, spelled .ensures .1) at (c .before .before .before .put .ensures)
 
 pub put-decimal-spec : {M : Type 1} → statement M
 put-decimal-spec =
     tie.close
-    (tie.spec
-    decimal-requires
-    array-share-prefix-digits
-    slice-aggregate-put
-    put-requires
-    same-length
-    returns)
+    (tie.spec slice-aggregate-room spell-requires sub-put part-put-start part-put-end put-requires same-length returns)
