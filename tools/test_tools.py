@@ -1,17 +1,21 @@
 """Tests of the tools: python3 -m unittest discover tools
 
-They need Python 3.8 and neither rt nor rowrun, for which scripts stand in. The round trip of a whole stream takes
-crates/rowrun/stdin and its stdout, or the files that the environment variables ROWRUN_RECORDS and ROWRUN_ANSWERS name.
+They need Python 3.8 and neither rt nor rowrun, for which scripts stand in; where rt is there, the compiler of its kit builds code
+for the check of instructions. The round trip of a whole stream takes crates/rowrun/stdin and its stdout, or the files that the
+environment variables ROWRUN_RECORDS and ROWRUN_ANSWERS name.
 """
 
 import command  # first: it says so where Python is too old
 
+import dataclasses
 import importlib.machinery
 import importlib.util
 import math
 import os
 import pathlib
+import platform
 import random
+import re
 import shutil
 import signal
 import stat
@@ -26,6 +30,7 @@ import xml.etree.ElementTree
 
 import answers
 import draw
+import instructions
 import plane
 import records
 
@@ -765,7 +770,7 @@ class Example(unittest.TestCase):
 
 
 class Versions(unittest.TestCase):
-    TOOLS = ["answer", "draw.py", "house", "records.py", "test_tools.py"]
+    TOOLS = ["answer", "draw.py", "house", "instructions.py", "records.py", "test_tools.py"]
 
     def test_an_older_python_is_told_what_is_needed(self):
         for name in self.TOOLS:
@@ -1452,6 +1457,462 @@ pub m :
         self.assertEqual(run_here(), (2, "", f"{self.root.resolve() / 'crates'}: No such file or directory\n"))
 
 
+# A root that calls root::digits in another section, by that section's name. That one calls root::near beside it, and jumps on to
+# root::last. ravelsickle_other, which multiplies, is called by none. Each listing has places where an instruction is put.
+GNU = """\
+In archive libkernel.a:
+
+kernel.o:     file format elf64-x86-64
+
+
+Disassembly of section .text.ravelsickle_root:
+
+0000000000000000 <ravelsickle_root>:
+   0:\tucomisd 0x0(%rip),%xmm0        # 8 <ravelsickle_root+0x8>
+\t\t\t4: R_X86_64_PC32\t.LCPI0_0-0x4
+   8:\tjp     1e <ravelsickle_root+0x1e>
+   a:\tmovq   %xmm0,%rax
+   f:\tcall   14 <ravelsickle_root+0x14>
+\t\t\t10: R_X86_64_PLT32\t.text.root+0xc
+  14:\t{root}
+  19:\tmovq   %rax,%xmm0
+  1e:\tret
+
+Disassembly of section .text.root:
+
+0000000000000000 <ravelsickle_other>:
+   0:\timul   %rdi,%rdi
+   4:\tret
+   5:\tdata16 cs nopw 0x0(%rax,%rax,1)
+
+0000000000000010 <root::digits>:
+  10:\tsub    %rdx,%rax
+  13:\tcall   30 <root::near>
+  18:\t{digits}
+  1d:\tjmp    22 <root::digits+0x12>
+\t\t\t1e: R_X86_64_PLT32\troot::last-0x4
+  22:\tcs nopw 0x0(%rax,%rax,1)
+  2c:\tnopl   0x0(%rax)
+
+0000000000000030 <root::near>:
+  30:\tcmovae %rcx,%rax
+  34:\t{near}
+  39:\tret
+
+Disassembly of section .text.root::last:
+
+0000000000000000 <root::last>:
+   0:\tlea    (%rax,%rcx,2),%rax
+   4:\t{last}
+   9:\tret
+"""
+LLVM = """\
+
+libkernel.a(kernel.o):\tfile format elf64-x86-64
+
+Disassembly of section .text.ravelsickle_root:
+
+0000000000000000 <ravelsickle_root>:
+       0:      \tucomisd\t(%rip), %xmm0           # xmm0 = mem[0],zero
+                                                # 0x8 <ravelsickle_root+0x8>
+\t\t0000000000000004:  R_X86_64_PC32\t.LCPI0_0-0x4
+       8:      \tjp\t0x1e <ravelsickle_root+0x1e>
+       a:      \tmovq\t%xmm0, %rax
+       f:      \tcallq\t0x14 <ravelsickle_root+0x14>
+\t\t0000000000000010:  R_X86_64_PLT32\t.text.root+0xc
+      14:      \t{root}
+      19:      \tmovq\t%rax, %xmm0
+      1e:      \tretq
+
+Disassembly of section .text.root:
+
+0000000000000000 <ravelsickle_other>:
+       0:      \timulq\t%rdi, %rdi
+       4:      \tretq
+       5:      \tnopw\t%cs:(%rax,%rax)
+
+0000000000000010 <root::digits>:
+      10:      \tsubq\t%rdx, %rax
+      13:      \tcallq\t0x30 <root::near>
+      18:      \t{digits}
+      1d:      \tjmp\t0x22 <root::digits+0x12>
+\t\t000000000000001e:  R_X86_64_PLT32\troot::last-0x4
+      22:      \tnopw\t%cs:(%rax,%rax)
+      2c:      \tnopl\t(%rax)
+
+0000000000000030 <root::near>:
+      30:      \tcmovaeq\t%rcx, %rax
+      34:      \t{near}
+      39:      \tretq
+
+Disassembly of section .text.root::last:
+
+0000000000000000 <root::last>:
+       0:      \tleaq\t(%rax,%rcx,2), %rax
+       4:      \t{last}
+       9:      \tretq
+"""
+# The same for a board: a root that jumps on to root::last, behind which there is data. Some of a function can stand under $t.
+GNU_THUMB = """
+kernel.o:     file format elf32-littlearm
+
+
+Disassembly of section .text.ravelsickle_root:
+
+00000000 <ravelsickle_root>:
+   0:\tstmdb\tsp!, {{r4, r5, r6, lr}}
+   4:\tcbz\tr0, c <ravelsickle_root+0xc>
+   6:\t{root}
+   a:\tnop
+   c:\tldmia.w\tsp!, {{r4, r5, r6, lr}}
+  10:\tb.w\t0 <ravelsickle_root>
+\t\t\t10: R_ARM_THM_JUMP24\troot::last
+
+Disassembly of section .text.root::last:
+
+00000000 <root::last>:
+   0:\tmov.w\tr0, r1, lsl #3
+   4:\tvldr\td0, [pc, #8]\t@ 10 <root::last+0x10>
+   8:\t{last}
+   c:\tbx\tlr
+   e:\tnop
+  10:\t.word\t0x00000000
+  14:\t.word\t0x7ff80000
+"""
+LLVM_THUMB = """
+kernel.o:\tfile format elf32-littlearm
+
+Disassembly of section .text.ravelsickle_root:
+
+00000000 <ravelsickle_root>:
+       0:      \tpush.w\t{{r4, r5, r6, lr}}
+       4:      \tcbz\tr0, 0xc <ravelsickle_root+0xc> @ imm = #4
+       6:      \t{root}
+       a:      \tnop
+       c:      \tpop.w\t{{r4, r5, r6, lr}}
+      10:      \tb.w\t0x10 <ravelsickle_root+0x10> @ imm = #-4
+\t\t\t00000010:  R_ARM_THM_JUMP24\troot::last
+
+Disassembly of section .text.root::last:
+
+00000000 <root::last>:
+       0:      \tlsl.w\tr0, r1, #3
+
+00000004 <$t>:
+       4:      \tvldr\td0, [pc, #8]             @ 0x10 <$d>
+       8:      \t{last}
+       c:      \tbx\tlr
+       e:      \tnop
+
+00000010 <$d>:
+      10:\t00 00 00 00\t.word\t0x00000000
+      14:\t00 00 f8 7f\t.word\t0x7ff80000
+"""
+
+
+class Instructions(unittest.TestCase):
+    """The check of instructions, on listings."""
+
+    X86_64 = [(GNU, instructions.X86_64), (LLVM, instructions.X86_64)]
+    THUMB = [(GNU_THUMB, instructions.THUMB), (LLVM_THUMB, instructions.THUMB)]
+    REFUSED = "not comparison, addition, subtraction, shift or mask"
+    OUT = "call 19 <ravelsickle_root+0x19>\n\t\t\t15: R_X86_64_PLT32\toutside-0x4"
+
+    def check(self, form, may_call="", **put):
+        text, processor = form
+        places = dict.fromkeys(("root", "digits", "near", "last"), "nop")
+        listing = instructions.Listing(text.format(**{**places, **put}), processor)
+        return listing, instructions.check(listing, may_call)
+
+    def refused(self, form, **more):
+        return list(self.check(form, **more)[1].refused.values())
+
+    def test_clean_code_passes(self):
+        for forms, counted in [(self.X86_64, "17 instructions in 4 functions"), (self.THUMB, "10 instructions in 2 functions")]:
+            for form in forms:
+                listing, result = self.check(form)
+                self.assertEqual(result.refused, {})
+                wanted = f"ravelsickle_root: {counted}, and none multiplies, divides or calls out\n"
+                self.assertEqual(instructions.say_passed(listing, result), wanted)
+
+    def test_each_kind_that_is_allowed(self):
+        x86_64 = "movabs $0x1,%rax|movzbl %al,%eax|cqto|movsd %xmm0,%xmm1|cmpltsd %xmm0,%xmm1|adcq %rax, %rcx|shldq $3, %rax, %rcx|rorx $1,%rax,%rcx"
+        x86_64 += "|andnpd %xmm0,%xmm1|pxor %xmm0,%xmm0|lzcnt %rax,%rcx|setnae %cl|cmovneq %rax, %rcx|nopw %cs:(%rax,%rax)|endbr64|sar %eax"
+        thumb = "movs r0, #0|movt r0, #32760|ldrd r0, r1, [sp]|vmov.f64 d0, d1|vmrs APSR_nzcv, fpscr|vcmpe.f64 d0, #0.0|sbcs.w r0, r1, r2"
+        thumb += "|movhs.w r4, r9, lsr #2|rsbs r0, r1, r2, lsl #1|rrx r0, r1|bfc r5, #20, #12|clzne r1, r5|ittet cs|uxtb r0, r0|add r0, pc, #8"
+        for forms, allowed in [(self.X86_64, x86_64), (self.THUMB, thumb)]:
+            for form in forms:
+                for text in allowed.split("|"):
+                    self.assertEqual(self.refused(form, root=text), [], text)
+
+    def test_each_kind_that_is_refused(self):
+        x86_64 = "imul %rcx,%rax|imulq %rcx, %rax|mul %rcx|mulx %rax,%rcx,%rdx|div %rcx|idivq %rcx|mulsd %xmm1,%xmm0|divsd %xmm1,%xmm0|sqrtsd %xmm0,%xmm0"
+        x86_64 += "|vfmadd213sd %xmm2,%xmm1,%xmm0|mulpd %xmm1,%xmm0|pmuludq %xmm1,%xmm0|addsd %xmm1,%xmm0|subsd %xmm1,%xmm0|fmul %st(1),%st|fsqrt"
+        x86_64 += "|cvtsi2sd %rax,%xmm0|rep stos %al,%es:(%rdi)|ud2|ret $0x8|(bad)|<unknown>"
+        thumb = "mul r0, r1|muls r0, r1, r0|mla r0, r1, r2, r3|mls r0, r1, r2, r3|umull r0, r1, r2, r3|smlal r0, r1, r2, r3|udiv r0, r1, r2|sdivne r0, r1, r2"
+        thumb += "|vmul.f64 d0, d1, d2|vdiv.f32 s0, s1, s2|vsqrt.f64 d0, d1|vfma.f64 d0, d1, d2|vadd.f64 d0, d1, d2|udf #0|svc 0|<unknown>|.word 0x00000000"
+        for forms, place, refused in [(self.X86_64, "0x14", x86_64), (self.THUMB, "0x6", thumb)]:
+            for form in forms:
+                for text in refused.split("|"):
+                    self.assertEqual(self.refused(form, root=text), [f"ravelsickle_root+{place}: {text}: {self.REFUSED}"])
+
+    def test_what_root_calls_and_what_that_jumps_to(self):
+        for form in self.X86_64:
+            for put, place in [("digits", "root::digits+0x8"), ("near", "root::near+0x4"), ("last", "root::last+0x4")]:
+                self.assertEqual(self.refused(form, **{put: "imul   %rcx,%rax"}), [f"{place}: imul %rcx,%rax: {self.REFUSED}"])
+        for form in self.THUMB:
+            self.assertEqual(self.refused(form, last="mul\tr0, r1"), [f"root::last+0x8: mul r0, r1: {self.REFUSED}"])
+
+    def test_what_root_does_not_call(self):
+        for text, processor in self.X86_64:
+            self.assertIn("imul", text)
+            called = self.refused((text, processor), last="jmp 9 <x>\n 5: R_X86_64_PLT32 ravelsickle_other-0x4")
+            self.assertEqual([line.partition(" ")[0] for line in called], ["ravelsickle_other+0x0:"])
+
+    def test_a_call_out(self):
+        for form in self.X86_64:
+            wanted = ["ravelsickle_root+0x14: call outside: leads out of the library"]
+            for may_call in ("", "out", "side", "other|out", "outside.+"):
+                self.assertEqual(self.refused(form, root=self.OUT, may_call=may_call), wanted, may_call)
+            for may_call in ("outside", "out(side|lier)", ".*"):
+                self.assertEqual(self.refused(form, root=self.OUT, may_call=may_call), [], may_call)
+            listing, result = self.check(form, root=self.OUT, may_call="outside")
+            self.assertTrue(instructions.say_passed(listing, result).endswith("or calls out, but for calls of outside\n"))
+
+    def test_a_call_out_of_a_board(self):
+        comparison, multiply = (f"bl 0 <a>\n\t\t\t6: R_ARM_THM_CALL\t__aeabi_{name}" for name in ("dcmplt", "dmul"))
+        for form in self.THUMB:
+            self.assertEqual(self.refused(form, root=comparison, may_call="__aeabi_dcmp(eq|lt)"), [])
+            wanted = ["ravelsickle_root+0x6: bl __aeabi_dmul: leads out of the library"]
+            self.assertEqual(self.refused(form, root=multiply, may_call="__aeabi_dcmp(eq|lt)"), wanted)
+
+    def test_a_place_that_is_known_only_when_it_runs(self):
+        got = "call *0x0(%rip)        # 1a <x>\n\t\t\t16: R_X86_64_GOTPCRELX\troot::last-0x4"
+        for form in self.X86_64:
+            for text in ("jmp *%rax", "jmpq *8(%rax)", "call *%rax", "callq *%rcx", got):
+                self.assertEqual([line.split(": ")[-1] for line in self.refused(form, root=text)], ["leads to a place that is known only when it runs"])
+        for form in self.THUMB:
+            for text in ("bx r3", "blx r3", "bxne r3", "tbb [pc, r1]", "tbh [pc, r1, lsl #1]"):
+                wanted = f"ravelsickle_root+0x6: {text}: leads to a place that is known only when it runs"
+                self.assertEqual(self.refused(form, root=text), [wanted])
+            for text in ("mov pc, r3", "ldr pc, [r0]", "ldr.w pc, [sp, #8]", "ldm r0, {r1, pc}", "add pc, r0"):
+                self.assertEqual(self.refused(form, root=text), [f"ravelsickle_root+0x6: {text}: {self.REFUSED}"])
+
+    def test_a_board_returns_in_many_ways(self):
+        for form in self.THUMB:
+            for text in ("bx lr", "pop {r4, pc}", "pop.w {r4, pc}", "ldmia.w sp!, {r4, pc}", "ldr.w pc, [sp], #4"):
+                self.assertEqual((self.refused(form, last=text), len(self.check(form, root=text)[1].reached)), ([], 9), text)
+            for text in ("bxeq lr", "popne {r4, pc}"):  # what comes next is reached too
+                self.assertEqual((self.refused(form, last=text), len(self.check(form, root=text)[1].reached)), ([], 10), text)
+
+    def test_where_no_instruction_begins(self):
+        for text, processor in self.X86_64:
+            for jump in ("jmp 1a <x>", "jne 0x1a <x>"):  # into the middle of another, in which there may be a third
+                found = self.refused((text, processor), root=jump)
+                self.assertEqual(found, [f"ravelsickle_root+0x14: {jump}: leads to where no instruction begins"])
+            for last, before in [("1e", ["jp", "movq"]), ("9", ["nop:"])]:  # a section's end, behind which there is another section, or none
+                found = self.refused((re.sub(rf"(?m)^ *{last}:\s+retq?\n", "", text), processor))
+                self.assertEqual(sorted(line.split(" ")[1] for line in found), before)
+                self.assertEqual({line.split(": ")[-1] for line in found}, {"leads to where no instruction begins"})
+        for text, processor in self.THUMB:  # on into the data
+            self.assertIn(".word", self.refused((text.replace("bx\tlr", "nop"), processor))[0])
+
+    def test_a_missing_entry(self):
+        for text, processor in self.X86_64 + self.THUMB:
+            for other in (text.replace("ravelsickle_root", "ravelsickle_roots"), ""):
+                self.assertEqual(self.refused((other, processor)), ["ravelsickle_root: not in the library"])
+
+    def test_a_name_of_another_object_file(self):
+        for text, processor in self.X86_64:
+            more = text.replace("ravelsickle_root", "other_root").replace("{last}", "mul %rcx")
+            self.assertEqual(self.refused((text + more, processor)), [])  # its own goes first
+            without = text.replace("<root::last>:", "<root::least>:")
+            self.assertEqual(self.refused((without + more, processor)), [f"root::last+0x4: mul %rcx: {self.REFUSED}"])
+
+    def test_a_listing_that_is_not_understood(self):
+        for text, processor in self.X86_64 + self.THUMB:
+            with self.assertRaisesRegex(instructions.CannotCheck, r"not understood: \t\.\.\.$"):
+                self.check((text + "\t...\n", processor))
+
+
+class InstructionsCommand(unittest.TestCase):
+    """The command, on what cannot be checked, and with scripts in place of disassemblers."""
+
+    def setUp(self):
+        directory = tempfile.TemporaryDirectory()
+        self.addCleanup(directory.cleanup)
+        self.root = pathlib.Path(directory.name)
+
+    def command(self, data, *options):
+        """The exit status, the output and the complaint, of which the file's name is left out."""
+        library = self.root / "libkernel.a"
+        library.write_bytes(data)
+        words = [sys.executable, str(HERE / "instructions.py"), *options, str(library)]
+        done = subprocess.run(words, capture_output=True, env={"PATH": str(self.root)})
+        return done.returncode, done.stdout.decode(), done.stderr.decode().replace(f"{library}: ", "")
+
+    def script(self, name, words):
+        (self.root / name).write_text(f"#!/bin/sh\n{words}\n")
+        (self.root / name).chmod(0o755)
+
+    def head(self, number):
+        """The head of an object file, as far as it is read, for a processor."""
+        return b"\x7fELF" + bytes(14) + struct.pack("<H", number)
+
+    def archive(self, *members):
+        heads = [b"name/".ljust(48) + str(len(member)).encode().ljust(10) + b"`\n" for member in members]
+        return b"!<arch>\n" + b"".join(head + member + b"\n" * (len(member) % 2) for head, member in zip(heads, members))
+
+    def test_what_cannot_be_checked(self):
+        for data, said in [
+            (b"", "neither an archive nor an object file"),
+            (b"!<thin>\n", "neither an archive nor an object file"),
+            (self.head(62)[:18], "a damaged archive"),
+            (self.archive(self.head(62))[:40], "a damaged archive"),
+            (self.archive(b"text"), "no object files, or not all for one processor"),
+            (self.archive(self.head(62), self.head(40)), "no object files, or not all for one processor"),
+            (self.head(183), "for the processor with the number 183, and known are those of x86-64, 62, and Thumb, 40"),
+            (self.archive(b"odd", self.head(62)), "no disassembler here can read it: install binutils-x86-64-linux-gnu or llvm"),
+            (self.head(40), "no disassembler here can read it: install binutils-arm-none-eabi or llvm"),
+        ]:
+            self.assertEqual(self.command(data), (2, "", f"{said}\n"))
+        self.assertEqual(self.command(self.head(40), "--put"), (2, "", "--put has instructions of x86-64, and this is for Thumb\n"))
+
+    def test_wrong_usage(self):
+        missing = self.root / "none"
+        done = run("instructions.py", missing)
+        self.assertEqual((done.returncode, done.stdout, done.stderr.decode()), (2, b"", f"{missing}: No such file or directory\n"))
+        self.assertEqual(run("instructions.py").returncode, 2)
+        status, output, complaint = self.command(self.head(62), "--may-call", "(")
+        self.assertEqual((status, output), (2, ""))
+        self.assertIn("argument --may-call: not a regular expression: ", complaint)
+
+    def test_the_first_disassembler_that_can(self):
+        (self.root / "listing").write_text(LLVM.format(root="nop", digits="nop", near="nop", last="nop"))
+        self.script("objdump", "echo can not; exit 1")
+        self.script("llvm-objdump-14", f"exec /bin/cat {self.root}/listing")
+        passed = "ravelsickle_root: 17 instructions in 4 functions, and none multiplies, divides or calls out\n"
+        self.assertEqual(self.command(self.head(62)), (0, passed, ""))
+
+    def test_what_is_refused(self):
+        (self.root / "listing").write_text(GNU.format(root="mul %rcx", digits="nop", near="nop", last="div %rcx"))
+        self.script("objdump", f"exec /bin/cat {self.root}/listing")
+        lines = [f"ravelsickle_root+0x14: mul %rcx: {Instructions.REFUSED}\n", f"root::last+0x4: div %rcx: {Instructions.REFUSED}\n"]
+        for options in ([], ["--put"]):
+            self.assertEqual(self.command(self.head(62), *options), (1, "", "".join(lines)))
+
+
+@unittest.skipUnless(shutil.which("rt"), "there is no rt, in whose kit the compiler is")
+class InstructionsOfBuilds(unittest.TestCase):
+    """The check of instructions, on code that is built here, by each disassembler that there is."""
+
+    CODE = """
+        typedef unsigned long long u64;
+        u64 outside(u64);
+        static u64 bits(double x) { u64 b; __builtin_memcpy(&b, &x, 8); return b; }
+        static __attribute__((noinline)) u64 helper(u64 x) { return x * (x ^ 3); }
+        double ravelsickle_root(double x) {
+            if (x != x) return x;
+            u64 left = bits(x), found = 0;
+            for (u64 bit = 1ull << 62; bit != 0; bit >>= 2) {
+                u64 next = found + bit;
+                found = (found >> 1) + (left < next ? 0 : bit);
+                left -= left < next ? 0 : next;
+            }
+            found += PUT;
+            __builtin_memcpy(&x, &found, 8);
+            return x;
+        }"""
+    COMPARISON = "__aeabi_dcmp(eq|lt|le|ge|gt|un)"
+
+    def setUp(self):
+        directory = tempfile.TemporaryDirectory()
+        self.addCleanup(directory.cleanup)
+        self.object = pathlib.Path(directory.name) / "kernel.o"
+        self.kit = pathlib.Path(os.environ.get("RATTLE_HOME") or pathlib.Path(shutil.which("rt")).resolve().parent.parent)
+        self.tools = self.kit / "on" / platform.machine() / "toolchain" / "bin"
+
+    def build(self, put, *target):
+        words = [self.tools / "clang", *(target or ["--target=x86_64-unknown-linux-gnu"]), "--no-default-config", "-fintegrated-cc1"]
+        words += ["-ffreestanding", "-nostdinc", "-fno-math-errno", "-O2", "-ffunction-sections", "-w", f"-DPUT={put}", "-c", "-x", "c", "-", "-o", self.object]
+        subprocess.run([str(word) for word in words], input=self.CODE.encode(), check=True)
+
+    def refused(self, processor, may_call=""):
+        """What is refused, by each disassembler here that can read the code."""
+        by_tool = []
+        for tool in filter(shutil.which, processor.disassemblers):
+            try:
+                text = instructions.disassemble(self.object, dataclasses.replace(processor, disassemblers=(tool,)))
+            except instructions.CannotCheck:
+                continue
+            by_tool.append(instructions.check(instructions.Listing(text, processor), may_call).refused)
+        return by_tool
+
+    def assert_refused(self, processor, cases, *target):
+        for put, wanted in cases:
+            self.build(put, *target)
+            for refused in self.refused(processor, self.COMPARISON):
+                self.assertRegex("\n".join(refused.values()), wanted, put)
+
+    def test_clean_code_passes(self):
+        self.build("left")
+        by_tool = self.refused(instructions.X86_64)
+        self.assertEqual(by_tool, [{}] * max(len(by_tool), 1))
+        done = run("instructions.py", self.object)
+        self.assertRegex(done.stdout.decode(), "^ravelsickle_root: [0-9]+ instructions in 1 function, and none multiplies, divides or calls out\n$")
+        self.assertEqual((done.returncode, done.stderr), (0, b""))
+
+    def test_one_thing_put_in(self):
+        cases = [
+            ("left*bits(x)", r"^ravelsickle_root\+\w+: imulq? "),
+            ("left/bits(x)", r"^ravelsickle_root\+\w+: div[lq]? "),
+            ("bits(x*x)", r"^ravelsickle_root\+\w+: mulsd "),
+            ("bits(__builtin_sqrt(x))", r"^ravelsickle_root\+\w+: sqrtsd "),
+            ("outside(left)", r"^ravelsickle_root\+\w+: callq? outside: leads out of the library$"),
+            ("helper(left)", r"^helper\+\w+: imulq? "),
+        ]
+        self.assert_refused(instructions.X86_64, cases)
+        done = run("instructions.py", self.object)
+        self.assertRegex(done.stderr.decode(), f"^helper.*: {Instructions.REFUSED}\n$")
+        self.assertEqual((done.returncode, done.stdout), (1, b""))
+
+    def test_one_thing_put_in_for_a_board(self):
+        target = ["--target=thumbv7m-none-eabi", "-mcpu=cortex-m3"]
+        self.build("left", *target)
+        by_tool = self.refused(instructions.THUMB, self.COMPARISON)
+        if not by_tool:
+            self.skipTest("there is no disassembler for Thumb")
+        self.assertEqual(by_tool, [{}] * len(by_tool))
+        for refused in self.refused(instructions.THUMB):
+            self.assertRegex("\n".join(refused.values()), r"^ravelsickle_root\+\w+: bl __aeabi_dcmpun: leads out of the library$")
+        cases = [
+            ("left*bits(x)", r"(?m)^ravelsickle_root\+\w+: umull "),
+            ("left/bits(x)", r"^ravelsickle_root\+\w+: bl __aeabi_uldivmod: leads out"),
+            ("bits(x*x)", r"^ravelsickle_root\+\w+: bl __aeabi_dmul: leads out"),
+            ("helper(left)", r"(?m)^helper\+\w+: umull "),
+        ]
+        self.assert_refused(instructions.THUMB, cases, *target)
+
+    def test_the_check_is_tried(self):
+        self.build("left")
+        library = self.object.with_name("libkernel.a")
+        subprocess.run([str(self.tools / "llvm-ar"), "rcs", str(library), str(self.object)], check=True)
+        done = run("instructions.py", "--put", library)
+        self.assertEqual((done.returncode, done.stderr, done.stdout.decode().splitlines()[-1]), (0, b"", "10 of 10 found"))
+
+    def test_what_is_not_found_where_it_is_put(self):
+        self.build("left")
+        put = [("imul", "480fafc1"), ("add", "4801c8"), ("mul", "48f7f1")]  # an addition, which is allowed, and a division
+        words = f"import instructions, sys; instructions.PUT = {put}; sys.exit(instructions.main(['--put', sys.argv[1]]))"
+        done = subprocess.run([sys.executable, "-c", words, str(self.object)], cwd=HERE, capture_output=True)
+        found, addition, multiplication, division, last = done.stdout.decode().splitlines()
+        self.assertRegex(found, r"^ravelsickle_root\+\w+: imulq? ")
+        self.assertRegex(addition, r"^add, put over ravelsickle_root\+.*, is not found, and alone$")
+        self.assertRegex(multiplication, r"^mul, put over ravelsickle_root\+.*, is not found, and alone$")
+        self.assertRegex(division, r"^ravelsickle_root\+\w+: divq? ")
+        self.assertEqual((done.returncode, done.stderr, last), (1, b"", "1 of 3 found"))
+
+
 class Gate(unittest.TestCase):
     """.ci/run in a repository of its own, with scripts in place of rt and of what it runs."""
 
@@ -1467,6 +1928,7 @@ class Gate(unittest.TestCase):
         self.script("bindings/run", 'echo "bindings $*" >>ran; echo 5 parts passed, 0 failed')
         self.write_test("pass")
         self.write_runs("pass")
+        self.write_check("pass")
         (self.root / ".ci").mkdir()
         shutil.copy(ROOT / ".ci" / "run", self.root / ".ci" / "run")
 
@@ -1487,6 +1949,10 @@ class Gate(unittest.TestCase):
     def write_runs(self, words):
         (self.root / "tools" / "rowrun_runs.py").write_text(f"open('ran', 'a').write('runs\\n'); {words}\n")
 
+    def write_check(self, words):
+        text = f"import sys; open('ran', 'a').write(' '.join(['instructions', *sys.argv[1:]]) + '\\n'); {words}\n"
+        (self.root / "tools" / "instructions.py").write_text(text)
+
     def gate(self, cwd="/", **more):
         """The gate's exit status, what it printed, on both streams, and which parts it ran."""
         path = os.pathsep.join([str(self.root / "bin"), "/usr/bin", "/bin"])
@@ -1497,6 +1963,7 @@ class Gate(unittest.TestCase):
         return done.returncode, done.stdout.decode(), ran
 
     ALL = ["rt fmt --check", "house", "tests", "rt ci", "runs", "bindings "]
+    ALL += ["instructions target/staticlib/libkernel.a", "instructions --put target/staticlib/libkernel.a"]
 
     def assert_fails(self, status, last, parts):
         found, said, ran = self.gate()
@@ -1560,6 +2027,12 @@ class Gate(unittest.TestCase):
         self.script("bindings/run", "echo bindings >>ran; echo 4 parts passed, 1 failed; exit 1")
         status, said, _ = self.gate()
         self.assertEqual((status, said.splitlines()[-1]), (1, "FAILED: the bindings, on the library that was proved (status 1)"))
+
+    def test_the_root_fails(self):
+        for words, status, parts in [("sys.exit(1)", 1, 7), ("sys.exit(2)", 2, 7), ("sys.exit('--put' in sys.argv)", 1, 8)]:
+            self.write_check(words)
+            self.assert_fails(status, f"FAILED: the root without a multiply or a divide, in the library that was proved (status {status})", parts)
+            (self.root / "ran").unlink()
 
     def test_no_rt(self):
         (self.root / "bin" / "rt").unlink()
