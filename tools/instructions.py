@@ -94,7 +94,7 @@ THUMB = Processor(
     comment="[@;]",
     allowed=rf"(?!\S+ pc\b|.*\bpc\}})(?:{'|'.join(THUMB_ALLOWED)})(?: .*)?",  # what writes pc jumps
     jumps=f"bl?{WHEN}{WIDE}|cbn?z|bl?x{WHEN}|tb[bh]",
-    returns=rf"bx{WHEN} lr|(?:pop{WHEN}{WIDE}|ldm(?:ia)?{WHEN}{WIDE} sp!,) \{{.*\bpc\}}|ldr{WHEN}{WIDE} pc, \[sp\], #4",
+    returns=rf"bx{WHEN} lr|(?:pop{WHEN}{WIDE}|ldm(?:ia)?{WHEN}{WIDE} sp!,) \{{.*\bpc\}}|ldr{WHEN}{WIDE} pc, \[sp\], #\d+",
     final=f"(?:b|bx|tb[bh]|pop|ldm|ldmia|ldr){WIDE}",
     addend=0,
 )

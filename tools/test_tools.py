@@ -30,6 +30,7 @@ import xml.etree.ElementTree
 
 import answers
 import draw
+import frames
 import instructions
 import plane
 import records
@@ -770,7 +771,7 @@ class Example(unittest.TestCase):
 
 
 class Versions(unittest.TestCase):
-    TOOLS = ["answer", "draw.py", "house", "instructions.py", "records.py", "test_tools.py"]
+    TOOLS = ["answer", "draw.py", "frames.py", "house", "instructions.py", "records.py", "test_tools.py"]
 
     def test_an_older_python_is_told_what_is_needed(self):
         for name in self.TOOLS:
@@ -1911,6 +1912,96 @@ class InstructionsOfBuilds(unittest.TestCase):
         self.assertRegex(multiplication, r"^mul, put over ravelsickle_root\+.*, is not found, and alone$")
         self.assertRegex(division, r"^ravelsickle_root\+\w+: divq? ")
         self.assertEqual((done.returncode, done.stderr, last), (1, b"", "1 of 3 found"))
+
+
+# Two entries and what they call, in one section: the first has a table of jumps, and the second runs on into what stands behind it.
+FRAMES = """
+image.elf:     file format elf32-littlearm
+
+
+Disassembly of section .text:
+
+00008000 <ravelsickle_first>:
+    8000:\tstmdb\tsp!, {{r4, r5, r6, lr}}
+    8004:\tsub\tsp, #24
+    8006:\ttbb\t[pc, r0]
+    800a:\t.short\t0x0603
+    800c:\t.word\t0xbf000000
+    8010:\tbl\t8030 <shallow>
+    8014:\tb.n\t801a <ravelsickle_first+0x1a>
+    8016:\tbl\t8040 <deep>
+    801a:\t{first}
+    801c:\tadd\tsp, #24
+    801e:\tldmia.w\tsp!, {{r4, r5, r6, pc}}
+    8022:\tmovs\tr0, r0
+
+00008024 <ravelsickle_second>:
+    8024:\tcmp\tr0, #0
+    8026:\tstr.w\tr1, [sp, #-8]!
+
+0000802a <behind>:
+    802a:\tpush\t{{r4, lr}}
+    802c:\t{second}
+    802e:\tpop\t{{r4, pc}}
+
+00008030 <shallow>:
+    8030:\tsub.w\tsp, sp, #100
+    8034:\tadd.w\tsp, sp, #100
+    8038:\tldr.w\tpc, [sp], #8
+
+00008040 <deep>:
+    8040:\tvpush\t{{d8-d15}}
+    8044:\tsub\tsp, #64
+    8046:\tstmia.w\tsp, {{r0, r1}}
+    804a:\t{deep}
+    804c:\tvpop\t{{d8-d15}}
+    8050:\tbx\tlr
+
+00008060 <apart>:
+    8060:\tmov\tsp, r0
+    8062:\tbx\tlr
+"""
+
+
+class Frames(unittest.TestCase):
+    """How deep the stack can get, on listings."""
+
+    def tell(self, text=FRAMES, **put):
+        places = dict.fromkeys(("first", "second", "deep"), "nop")
+        return frames.tell(instructions.Listing(text.format(**{**places, **put}), instructions.THUMB))
+
+    def test_the_deepest_chain_of_calls(self):
+        self.assertEqual(self.tell(), "first 168\nsecond 16\n")  # 16 + 24, then 64 + 64, not 100; 8 + 8
+        self.assertEqual(self.tell(second="bl 8030 <shallow>"), "first 168\nsecond 116\n")
+        self.assertEqual(self.tell(deep="bne.n 8030 <shallow>"), "first 268\nsecond 16\n")
+
+    def test_each_way_that_a_table_leads(self):
+        without = FRAMES.replace("0x0603", "0x0303")  # both to the first
+        self.assertEqual(self.tell(without), "first 140\nsecond 16\n")
+
+    def test_what_no_bound_can_be_told_of(self):
+        for text, why in [
+            ("mov sp, r0", "sets the stack pointer to what is not known"),
+            ("sub sp, r3", "sets the stack pointer to what is not known"),
+            ("stmdb sp!, r3", "sets the stack pointer to what is not known"),
+            ("blx r3", "leads to a place that is known only when it runs"),
+            ("bl 9000 <elsewhere>", "leads to where no instruction begins"),
+        ]:
+            with self.assertRaisesRegex(instructions.CannotCheck, rf"^deep\+0xa: .*: {why}$"):
+                self.tell(deep=text)
+        with self.assertRaisesRegex(instructions.CannotCheck, "comes back to itself$"):
+            self.tell(deep="bl 8000 <ravelsickle_first>")
+        with self.assertRaisesRegex(instructions.CannotCheck, "there is no entry"):
+            self.tell(FRAMES.replace("ravelsickle_", "other_"))
+
+    def test_what_is_not_an_image_for_a_board(self):
+        with tempfile.TemporaryDirectory() as directory:
+            image = pathlib.Path(directory) / "image.elf"
+            image.write_bytes(b"\x7fELF" + bytes(14) + struct.pack("<H", 62))
+            done = run("frames.py", image)
+            self.assertEqual((done.returncode, done.stdout, done.stderr.decode()), (2, b"", f"{image}: for x86-64, and not for Thumb\n"))
+            done = run("frames.py", image.with_name("none.elf"))
+            self.assertEqual((done.returncode, done.stdout), (2, b""))
 
 
 class Gate(unittest.TestCase):
