@@ -13,6 +13,7 @@
  *   norm n a b c .. = a b c ..
  *   recover UPTO X Y EPSILON REDUCED BOX FIRST SECOND n a b c .. = X Y FIRST SECOND | refused K FIRST SECOND
  */
+#include "print.h"
 #include "ravelsickle.h"
 #include "stack.h"
 
@@ -69,20 +70,6 @@ static size_t next_floats(size_t width) {
         floats[k] = next_float();
     }
     return count;
-}
-
-static void print_float(double x) {
-    uint64_t bits;
-    memcpy(&bits, &x, sizeof bits);
-    printf(" %08lX%08lX", (unsigned long)(bits >> 32), (unsigned long)(bits & UINT32_MAX));
-}
-
-static void print_row(bool there, uint64_t row) {
-    if (there) {
-        printf(" %llu", (unsigned long long)row);
-    } else {
-        printf(" -");
-    }
 }
 
 static void print_two(uint64_t refusal, double x, double y) {

@@ -4,6 +4,7 @@
  *
  *   solves FILE
  */
+#include "print.h"
 #include "ravelsickle.h"
 #include "stack.h"
 
@@ -79,20 +80,6 @@ static struct ravelsickle_answer solve_each_way(unsigned long record, size_t n) 
         fail(record, "the source's own form answers otherwise");
     }
     return answer;
-}
-
-static void print_float(double x) {
-    uint64_t bits;
-    memcpy(&bits, &x, sizeof bits);
-    printf(" %08lX%08lX", (unsigned long)(bits >> 32), (unsigned long)(bits & UINT32_MAX));
-}
-
-static void print_row(bool there, uint64_t row) {
-    if (there) {
-        printf(" %llu", (unsigned long long)row);
-    } else {
-        printf(" -");
-    }
 }
 
 static void print_answer(unsigned long record, const struct ravelsickle_answer *answer) {
