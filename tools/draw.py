@@ -107,17 +107,19 @@ def say_list(opening, rows):
 
 
 class Picture:
-    """The parts of one picture, collected in the order in which they are painted."""
+    """The parts of one picture, collected in the order in which they are painted; the view is shown in a box of it."""
 
-    def __init__(self, view):
+    def __init__(self, view, box=BOX):
         self.view = view
+        self.box = box
         self.parts = []
         self.taken = []  # boxes of the labels and marks in the plot
         self.lines = []  # segments that labels should keep off
 
     def pixel(self, share):
         """Where a point of the view, in shares of its size, stands in the picture."""
-        return LEFT + share[0] * PLOT_WIDTH, TOP + (1 - share[1]) * PLOT_HEIGHT
+        left, top, right, bottom = self.box
+        return left + share[0] * (right - left), top + (1 - share[1]) * (bottom - top)
 
     def polygon(self, shares, attributes):
         corners = " ".join("%.2f,%.2f" % self.pixel(share) for share in shares)
@@ -146,7 +148,8 @@ class Picture:
     def collisions(self, box, own):
         """How badly a label would stand here: outside the plot is worst, then on others, then on lines."""
         left, low, right, high = box
-        outside = left < BOX[0] + 2 or low < BOX[1] + 2 or right > BOX[2] - 2 or high > BOX[3] - 2
+        plot = self.box
+        outside = left < plot[0] + 2 or low < plot[1] + 2 or right > plot[2] - 2 or high > plot[3] - 2
         covered = sum(left < o[2] + 4 and o[0] - 4 < right and low < o[3] and o[1] < high for o in self.taken)
         wider = (left - 5, low - 4, right + 5, high + 4)
         crossed = sum(plane.segment_in_box(*line, wider) is not None for line in self.lines if line != own)
@@ -356,13 +359,13 @@ def draw_caption(picture, title, lines):
     return height
 
 
-def compose(picture, height, title, words):
+def compose(picture, height, title, words, width=WIDTH):
     """The whole document around the parts of a picture."""
     opening = (
-        f'<svg xmlns="http://www.w3.org/2000/svg" viewBox="0 0 {WIDTH} {height}" width="{WIDTH}" height="{height}"'
+        f'<svg xmlns="http://www.w3.org/2000/svg" viewBox="0 0 {width} {height}" width="{width}" height="{height}"'
         f' font-family="Helvetica, Arial, sans-serif" fill="{INK}" role="img">'
     )
-    size = f'width="{WIDTH - 1}" height="{height - 1}" rx="8"'
+    size = f'width="{width - 1}" height="{height - 1}" rx="8"'
     background = f'<rect x="0.5" y="0.5" {size} fill="{PAPER}" stroke="{EDGE}"/>'
     head = ['<?xml version="1.0" encoding="UTF-8"?>', opening, f"<title>{escape(title)}</title>"]
     return "\n".join(head + [f"<desc>{escape(words)}</desc>", background] + picture.parts + ["</svg>"]) + "\n"

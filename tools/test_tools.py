@@ -42,9 +42,9 @@ SPACE = "{http://www.w3.org/2000/svg}"
 EXAMPLE_LINE = "1 point 3FF0000000000000 401C000000000000 6 5 28"  # what rowrun answers to example.txt
 
 
-def load(name):
-    """A command of this directory whose file has no ending, as a module."""
-    loader = importlib.machinery.SourceFileLoader(name, str(HERE / name))
+def load(name, folder=HERE):
+    """A command of a directory whose file has no ending, as a module."""
+    loader = importlib.machinery.SourceFileLoader(name, str(folder / name))
     module = importlib.util.module_from_spec(importlib.util.spec_from_loader(name, loader))
     sys.modules[name] = module  # where its classes look for it
     loader.exec_module(module)
@@ -53,6 +53,7 @@ def load(name):
 
 answer = load("answer")
 house = load("house")
+plot = load("plot", ROOT / "compare")
 
 
 def stream_file(variable, name):
@@ -770,20 +771,257 @@ class Example(unittest.TestCase):
         self.assertTrue(rows[5][0] < 0 < rows[6][0] and min(rows[5][1], rows[6][1]) > 0)
 
 
+BENCH = b"""kernel / original         own entry   collecting
+planner-8                      2.00         9.00
+planner-32                     0.50         9.00
+planner-128                    1.00         9.00
+normalize-pairs-8              3.00         9.00
+recovery                       1.22         9.00
+kernel / machine             a call
+root, many                    48.29
+"""
+
+
+def plotted(*panels):
+    """The picture of panels, each a heading with what the bench printed."""
+    return Svg(plot.plot([(heading, plot.read_ratios(data, "bench")) for heading, data in panels]))
+
+
+def marks(drawn, name):
+    """Where the marks of a line stand, and the corners of the line itself."""
+    group = drawn.by_id[name]
+    where = [re.fullmatch(r"translate\((\S+) (\S+)\)", mark.get("transform")).groups() for mark in group.iter(f"{SPACE}path")]
+    corners = [pair.split(",") for pair in group.find(f"{SPACE}polyline").get("points").split()]
+    return [tuple(map(float, pair)) for pair in where], [tuple(map(float, pair)) for pair in corners]
+
+
+class Plot(unittest.TestCase):
+    WORDS = ["normalising, no pairs", "normalising rows that are normalised already", "normalising, rows in \u00b1 pairs", "not normalising"]
+
+    def test_marks_stand_where_the_scales_say(self):
+        """The plot goes from (66, 46) to (868, 376). Across it shows log2 8 - 1/4 = 2.75 to log2 128 + 1/4 = 7.25, and up 0 to 3.5:
+        the greatest ratio is 3, and by 0.5 the next line above it."""
+        drawn = plotted(("", BENCH))
+        points, corners = marks(drawn, "panel-1-planner")
+        wanted = [
+            (66 + 802 * 0.25 / 4.5, 376 - 330 * 2 / 3.5),  # 8 rows, 2.00
+            (66 + 802 * 2.25 / 4.5, 376 - 330 * 0.5 / 3.5),  # 32 rows, 0.50
+            (66 + 802 * 4.25 / 4.5, 376 - 330 * 1 / 3.5),  # 128 rows, 1.00
+        ]
+        self.assertEqual([(round(x), round(y)) for x, y in wanted], [(111, 187), (467, 329), (823, 282)])
+        self.assertEqual(points, [(round(x, 2), round(y, 2)) for x, y in wanted])
+        self.assertEqual(corners, points)
+        self.assertEqual(marks(drawn, "panel-1-normalize-pairs")[0], [(110.56, 93.14)])  # 376 - 330 * 3 / 3.5
+        even = drawn.of_class("even")[0]
+        self.assertEqual([even.get(name) for name in ("x1", "y1", "x2", "y2")], ["66.00", "281.71", "868.00", "281.71"])
+
+    def test_ticks(self):
+        drawn = plotted(("", BENCH))
+        self.assertEqual(drawn.ticks("x"), [(8, 110.56), (32, 467.0), (128, 823.44)])
+        self.assertEqual([value for value, _ in drawn.ticks("y")], [0, 0.5, 1, 1.5, 2, 2.5, 3, 3.5])
+        crowded = plotted(("", b"".join(b"a-%d 0.3\n" % rows for rows in (8, 1000, 1001, 1002, 2048))))
+        self.assertEqual([value for value, _ in crowded.ticks("x")], [8, 1000, 2048])  # written where there is room
+        self.assertEqual(crowded.ticks("y")[-1][0], 1.2)  # 1 is in view always
+
+    def test_words(self):
+        drawn = plotted(("", BENCH))
+        self.assertEqual(drawn.captions, self.WORDS[2:])
+        self.assertIn("as long as the original", drawn.words())
+        self.assertIn("rows", drawn.words())
+        self.assertEqual(drawn.of_class("heading"), [])
+        said = "normalising, rows in \u00b1 pairs: 3 at 8 rows; not normalising: 2 at 8 rows, 1 at 128 rows."
+        self.assertEqual(drawn.root.find(f"{SPACE}desc").text, said)
+        every = "".join(f"{family}-8 1.0\n" for family in ("planner", "other", "normalize-pairs", "normalized", "normalize-single"))
+        self.assertEqual(plotted(("", every.encode())).captions, self.WORDS + ["other"])
+
+    def test_families_look_different_and_always_the_same(self):
+        looks = set()
+        names = list(plot.FAMILIES) + [f"other{number}" for number in range(26)]
+        drawn = plotted(("", "".join(f"{name}-8 1.0\n" for name in names).encode()))
+        for name in names:
+            mark = next(drawn.by_id[f"panel-1-{name}"].iter(f"{SPACE}path"))
+            looks.add((mark.get("fill"), mark.get("d")))
+        self.assertEqual(len(looks), 30)
+        for data in (b"planner-8 1", b"new-8 1\nplanner-8 1"):
+            mark = next(plotted(("", data)).by_id["panel-1-planner"].iter(f"{SPACE}path"))
+            self.assertEqual((mark.get("fill"), mark.get("d")), (plot.COLOURS[3], plot.MARKS[3]))
+
+    def test_two_panels(self):
+        """They share both scales: the second has 2,048 rows and the ratio 5, and the first has room for them too."""
+        drawn = plotted(("Arm", BENCH), ("x86-64 <&>", b"planner-2048 5.00\nmine-8 1.00\n"))
+        self.assertEqual([heading.text for heading in drawn.of_class("heading")], ["Arm", "x86-64 <&>"])
+        self.assertEqual([float(heading.get("x")) for heading in drawn.of_class("heading")], [252, 682])  # of 66 to 438 and 496 to 868
+        self.assertEqual(marks(drawn, "panel-1-planner")[0][0], (round(66 + 372 * 0.25 / 8.5, 2), round(402 - 330 * 2 / 6, 2)))
+        self.assertEqual(marks(drawn, "panel-2-planner")[0], [(round(496 + 372 * 8.25 / 8.5, 2), round(402 - 330 * 5 / 6, 2))])
+        self.assertEqual(len(drawn.of_class("even")), 2)
+        self.assertEqual(drawn.captions, self.WORDS[2:] + ["mine"])
+        self.assertNotIn("panel-1-mine", drawn.by_id)
+        self.assertEqual(drawn.root.get("width"), "900")
+        self.assertEqual(plotted(*[("A", BENCH)] * 4).root.get("width"), "1200")
+
+    def test_the_name_of_the_line_keeps_off_the_others(self):
+        """Lines that leave it room everywhere, on the left alone, and only under the one at 1."""
+        for data, side, right in [
+            (b"a-8 2\na-2048 2\n", -1, True),
+            (b"a-8 3\na-64 3\na-65 1.1\na-2048 1.1\n", -1, False),
+            (b"a-8 1.05\na-2048 1.05\n", 1, True),
+        ]:
+            drawn = plotted(("", data))
+            y = float(drawn.of_class("even")[0].get("y1"))
+            label = next(text for text in drawn.root.iter(f"{SPACE}text") if text.text == plot.EVEN)
+            self.assertEqual((math.copysign(1, float(label.get("y")) - 4.5 - y), float(label.get("x")) > 467), (side, right), data)
+
+    def test_no_text_is_clipped(self):
+        shares = {None: (0, 1), "middle": (0.5, 0.5), "end": (1, 0)}  # of a text, left and right of its place
+        odd = "\n".join([f"{'long' * 60}-1 1", f"{'mean' * 11}-1000000 1000000", "a-1000 0"]).encode()
+        for panels in [[("", BENCH)], [("M" * 300, BENCH)] * 3, [("name", odd)], [("name", odd)] * 3]:
+            drawn = plotted(*panels)
+            width, height = float(drawn.root.get("width")), float(drawn.root.get("height"))
+            size = {element: above.get("font-size") for above in drawn.root.iter() for element in above}
+            for text in drawn.root.iter(f"{SPACE}text"):
+                letter = 0.6 * float(text.get("font-size") or size[text])
+                before, after = (share * letter * len(text.text) for share in shares[text.get("text-anchor")])
+                self.assertTrue(0 <= float(text.get("x")) - before and float(text.get("x")) + after <= width, text.text)
+                self.assertTrue(2 * letter <= float(text.get("y")) <= height - letter, text.text)
+
+    def test_names_that_need_escaping(self):
+        drawn = plotted(("<b>&amp;\"", 'a<b>&"\'-8 1\n\x01\ufffe-8 1\n'.encode()))
+        self.assertEqual(drawn.captions, ['a<b>&"\'', "\ufffd\ufffd"])
+        self.assertIn('panel-1-a<b>&"\'', drawn.by_id)
+        self.assertEqual([heading.text for heading in drawn.of_class("heading")], ['<b>&amp;"'])
+
+    # What was printed, and what is said of it behind the name of the file.
+    WRONG = [
+        (b"", ": no line has a case of the bench and its ratio"),
+        (b"kernel / original  own entry\nrecovery  1.22 1.24\nroot, many  48.29\n", ": no line has a case of the bench and its ratio"),
+        (b"\nplanner-8 fast 1\n", ":2: 'fast' is not a number"),
+        (b"planner-8   answers alike, 256 instances\n", ":1: 'answers' is not a number"),
+        (b"planner-8 -0.01 1\n", ":1: '-0.01' is not a ratio from 0 to 1000000"),
+        (b"planner-8 1\nplanner-16 inf 1\n", ":2: 'inf' is not a ratio from 0 to 1000000"),
+        (b"planner-8 1\nplanner-16 NaN 1\n", ":2: 'NaN' is not a ratio from 0 to 1000000"),
+        (b"planner-8 1000001\n", ":1: '1000001' is not a ratio from 0 to 1000000"),
+        (b"planner-8\n", ":1: 'planner-8' has no ratio"),
+        (b"planner-0 1\n", ":1: 'planner-0' is not of 1 to 1000000 rows"),
+        (b"planner-1000001 1\n", ":1: 'planner-1000001' is not of 1 to 1000000 rows"),
+        (b"planner-" + b"9" * 5000 + b" 1\n", f":1: 'planner-{'9' * 5000}' is not of 1 to 1000000 rows"),
+        (b"planner-8 1\nplanner-16 1\nplanner-8 1\n", ":3: planner of 8 rows for the second time"),
+        (b"planner-8 1\n\xff\n", ":2: not text in UTF-8"),
+    ]
+
+    def test_what_cannot_be_drawn(self):
+        for content, message in self.WRONG:
+            with self.assertRaises((ValueError, records.TextError)) as caught:
+                plot.read_ratios(content, "bench")
+            self.assertEqual(str(caught.exception), f"bench{message}")
+
+    def test_forms_of_lines(self):
+        data = b"\xef\xbb\xbfplanner-8 1.5\r\n\r\n  a-b-08   2 not read\nplanner- 3\n-8 4\nroot-two, 5\nplanner-16 1e0"
+        self.assertEqual(plot.read_ratios(data, "bench"), {"planner": {8: 1.5, 16: 1.0}, "a-b": {8: 2.0}})
+
+
+class PlotCommand(unittest.TestCase):
+    NAME = "../compare/plot"
+
+    def setUp(self):
+        directory = tempfile.TemporaryDirectory()
+        self.addCleanup(directory.cleanup)
+        self.directory = pathlib.Path(directory.name)
+
+    def file(self, name, content):
+        path = self.directory / name
+        path.write_bytes(content)
+        return path
+
+    def test_a_file_and_standard_input(self):
+        bench = self.file("bench", BENCH)
+        wanted = plot.plot([("", plot.read_ratios(BENCH, "bench"))]).encode()
+        for done in (run(self.NAME, bench), run(self.NAME, given=BENCH), run(self.NAME, "-", given=BENCH), run(self.NAME, f"={bench}")):
+            self.assertEqual((done.returncode, done.stdout, done.stderr), (0, wanted, b""))
+
+    def test_panels_by_name(self):
+        bench = self.file("a=b", BENCH)
+        done = run(self.NAME, f"Arm={bench}", "\u00df <2>=-", given=BENCH)
+        self.assertEqual((done.returncode, done.stderr), (0, b""))
+        self.assertEqual([heading.text for heading in Svg(done.stdout).of_class("heading")], ["Arm", "\u00df <2>"])
+        raw = subprocess.run([sys.executable, HERE / self.NAME, b"\xff\x01=-"], input=BENCH, capture_output=True)
+        self.assertEqual([heading.text for heading in Svg(raw.stdout).of_class("heading")], ["\ufffd\ufffd"])
+
+    def test_what_cannot_be_drawn(self):
+        for content, message in Plot.WRONG[:4]:
+            bad = self.file("bad", content)
+            for done, name in ((run(self.NAME, bad), bad), (run(self.NAME, f"A={bad}"), bad), (run(self.NAME, given=content), "standard input")):
+                self.assertEqual((done.returncode, done.stdout, done.stderr.decode()), (2, b"", f"{name}{message}\n"))
+
+    def test_files_that_cannot_be_read(self):
+        good, none = self.file("good", BENCH), self.directory / "none"
+        for words in ([none], [f"A={none}"], [f"A={good}", f"B={none}"]):
+            done = run(self.NAME, *words)
+            self.assertEqual((done.returncode, done.stdout, done.stderr.decode()), (2, b"", f"{none}: No such file or directory\n"))
+        self.assertEqual(run(self.NAME, self.directory).stderr.decode(), f"{self.directory}: Is a directory\n")
+
+    def test_wrong_usage(self):
+        for words, message in [
+            (["--what"], "unrecognized arguments: --what"),
+            (["A=x", "y"], "of more than one file each is NAME=FILE, and 'y' is not"),
+            (["A="], "'A=' names no file"),
+            ([""], "'' names no file"),
+            (["A=-", "B=-"], "only one of the files can be standard input"),
+        ]:
+            done = run(self.NAME, *words)
+            said = f"usage: plot [-h] [FILE | NAME=FILE ...]\nplot: error: {message}\n"
+            self.assertEqual((done.returncode, done.stdout, done.stderr.decode()), (2, b"", said))
+
+    def test_help(self):
+        done = run(self.NAME, "--help")
+        self.assertEqual((done.returncode, done.stderr), (0, b""))
+        self.assertIn(b"usage: plot [-h] [FILE | NAME=FILE ...]", done.stdout)
+
+    def test_closed_output(self):
+        bench = self.file("bench", BENCH)
+        for words in ([bench], ["--help"]):
+            reader, writer = os.pipe()
+            os.close(reader)  # nobody reads: the first write fails
+            done = subprocess.run([sys.executable, HERE / self.NAME, *words], stdout=writer, stderr=subprocess.PIPE)
+            os.close(writer)
+            self.assertEqual(done.stderr, b"", words)
+            self.assertIn(done.returncode, (0, 1) if "--help" in words else (1,), words)
+        with open("/dev/full", "wb") as full:
+            done = subprocess.run([sys.executable, HERE / self.NAME, bench], stdout=full, stderr=subprocess.PIPE)
+        self.assertEqual((done.returncode, done.stderr), (1, b"standard output: No space left on device\n"))
+
+
+class Bench(unittest.TestCase):
+    """docs/bench.svg, and the files that it is drawn from."""
+
+    COMMAND = ["compare/plot", "Arm=docs/bench-arm.txt"]
+
+    def test_the_picture_is_what_is_drawn_today(self):
+        done = subprocess.run(self.COMMAND, cwd=ROOT, capture_output=True)
+        self.assertEqual((done.returncode, done.stderr), (0, b""))
+        kept = (ROOT / "docs" / "bench.svg").read_text("utf-8")
+        self.assertEqual(kept, done.stdout.decode("utf-8"), f"draw it again: {' '.join(self.COMMAND)} >docs/bench.svg")
+
+    def test_the_picture_shows_every_case(self):
+        drawn = Svg((ROOT / "docs" / "bench.svg").read_text("utf-8"))
+        self.assertEqual(drawn.captions, Plot.WORDS)
+        for number in range(1, len(self.COMMAND)):
+            for family in plot.FAMILIES:
+                self.assertEqual(len(marks(drawn, f"panel-{number}-{family}")[0]), 7, family)
+
+
 class Versions(unittest.TestCase):
-    TOOLS = ["answer", "draw.py", "frames.py", "house", "instructions.py", "records.py", "test_tools.py"]
+    TOOLS = ["answer", "draw.py", "frames.py", "house", "instructions.py", "records.py", "test_tools.py", "../compare/plot"]
 
     def test_an_older_python_is_told_what_is_needed(self):
         for name in self.TOOLS:
             older = f"import runpy, sys; sys.version_info = (3, 7, 17); sys.argv = [{name!r}]; runpy.run_path({name!r}, run_name='__main__')"
             done = subprocess.run([sys.executable, "-c", older], cwd=HERE, capture_output=True)
-            message = f"{name} needs Python 3.8 or newer, and this is Python 3.7\n"
+            message = f"{pathlib.PurePath(name).name} needs Python 3.8 or newer, and this is Python 3.7\n"
             self.assertEqual((done.returncode, done.stdout, done.stderr.decode()), (1, b"", message))
 
     def test_each_head_says_what_is_needed(self):
-        for path in HERE.iterdir():
-            if path.suffix == ".py" or path.name in self.TOOLS:
-                self.assertIn("Python 3.8", path.read_text().partition("import")[0], path.name)
+        for path in {*HERE.glob("*.py"), *(HERE / name for name in self.TOOLS)}:
+            self.assertIn("Python 3.8", path.read_text().partition("import")[0], path.name)
 
 
 class Words(unittest.TestCase):

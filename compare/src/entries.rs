@@ -2,7 +2,7 @@
 
 use crate::batch::{self, Kind};
 use crate::kernel::{Call, Kernel};
-use crate::original::{Edition, Recovery};
+use crate::original::{Edition, Recovery, UNMODIFIED};
 use crate::records::{LineSetting, Pair, Record, RecoveredPoint};
 use crate::report::{Verdict, differs_on_line, hex, hex_all, row_text};
 use crate::rng::Rng;
@@ -213,9 +213,24 @@ fn row(rng: &mut Rng) -> Row {
     (number(rng), number(rng), number(rng))
 }
 
+/// Rows of any squares, of squares that come again in any order, or normalised already.
 fn normalizing(rng: &mut Rng) -> Case {
     let size = rng.size(0, 12);
-    Case::Normalize((0..size).map(|_| row(rng)).collect())
+    let mut rows: Vec<Row> = (0..size).map(|_| row(rng)).collect();
+    match rng.below(4) {
+        0 | 1 => {
+            for k in 1..rows.len() {
+                if rng.once_in(2) {
+                    let (a, b, _) = rows[rng.below(k as u64) as usize];
+                    let sign = rng.sign();
+                    rows[k] = (a * sign, b * sign, rows[k].2);
+                }
+            }
+        }
+        2 => UNMODIFIED.normalize(&mut rows),
+        _ => {}
+    }
+    Case::Normalize(rows)
 }
 
 /// Two rows, at times nearly parallel, so that the determinant is near its error bound.

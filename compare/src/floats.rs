@@ -64,8 +64,18 @@ fn near_square(rng: &mut Rng) -> f64 {
     values::neighbour(rng, r * r)
 }
 
+/// A float at most 2^28 floats away from 1, or a few away from where the rule near 1 ends.
+fn near_one(rng: &mut Rng) -> f64 {
+    let away = match rng.below(3) {
+        0 => rng.whole(-(1 << 28), 1 << 28),
+        1 => rng.whole(-1000, 1000),
+        _ => rng.pick(&[-(1 << 26), 1 << 26]) + rng.whole(-1000, 1000),
+    };
+    f64::from_bits(1f64.to_bits().wrapping_add(away as u64))
+}
+
 fn root_case(rng: &mut Rng) -> f64 {
-    match rng.below(8) {
+    match rng.below(9) {
         0 => values::any_bits(rng),
         1 => values::subnormal(rng).abs(),
         2 | 3 => near_square(rng),
@@ -75,6 +85,7 @@ fn root_case(rng: &mut Rng) -> f64 {
         }
         5 => rng.between(0.0, 4.0),
         6 => values::special(rng),
+        7 => near_one(rng),
         // An even or odd power of two and its neighbours.
         _ => {
             let power = 2f64.powi(rng.whole(-1021, 1023) as i32);

@@ -68,6 +68,13 @@ fn instances(size: usize) -> usize {
     (8192 / size).clamp(4, 256)
 }
 
+/// Planner rows without pairs that were normalised before, by the original, and are to be normalised again.
+fn normalized_task(rng: &mut Rng, size: usize) -> Task {
+    let mut task = planner_task(rng, size, true, false);
+    UNMODIFIED.normalize(&mut task.rows);
+    task
+}
+
 fn cases() -> Vec<Case> {
     let mut rng = Rng::new(1, 77);
     let mut found = Vec::new();
@@ -90,6 +97,14 @@ fn cases() -> Vec<Case> {
         name: "recovery".to_string(),
         tasks: (0..256).map(|_| recovering_task(&mut rng)).collect(),
     });
+    for size in SIZES {
+        found.push(Case {
+            name: format!("normalized-{size}"),
+            tasks: (0..instances(size))
+                .map(|_| normalized_task(&mut rng, size))
+                .collect(),
+        });
+    }
     found
 }
 
