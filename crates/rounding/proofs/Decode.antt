@@ -185,8 +185,8 @@ module _ (b : ℕ) (h : b < 0x7ff0_0000_0000_0000) (n : b / 2 ^ 52 ≡ 0 → ⊥
       go : (x : ℕ) → 0 < x → 10 + (x + 51) ≡ x - 1 + 62
       go x p = omega arith
 
-  pub taken-normal : Taken b (bitOr (bitAnd b (2 ^ 52 - 1)) (2 ^ 52) * 1024 % 2 ^ 64) (b / 2 ^ 52 + 51)
-  taken-normal = subst (λ (x : ℕ). Taken b x (b / 2 ^ 52 + 51)) (sym is) (record {
+  pub taken-normal : Taken b ((2 ^ 52 + d) * 1024) (b / 2 ^ 52 + 51)
+  taken-normal = record {
     least = mul-le-mul-right 1024 (le-add-right (2 ^ 52) d);
     most = most;
     whole = mul-mod-left (2 ^ 52 + d) 1024;
@@ -196,4 +196,8 @@ module _ (b : ℕ) (h : b < 0x7ff0_0000_0000_0000) (n : b / 2 ^ 52 ≡ 0 → ⊥
         (sym (by-fields b s (lt-of-lt-of-le h (lit≤ tt))))
         (to-1136 (ofFields binary64 s (b / 2 ^ 52) d) s ((2 ^ 52 + d) * 2 ^ (b / 2 ^ 52 - 1)) ((2 ^ 52 + d) * 1024 * 2 ^ (b / 2 ^ 52 + 51))
         (same (b / 2 ^ 52) x-pos) (mid-fields s (b / 2 ^ 52) d x-pos x-lt));
-  })
+  }
+
+  -- as the program has it, with the masks
+  pub normal-masked : Taken b (bitOr (bitAnd b (2 ^ 52 - 1)) (2 ^ 52) * 1024 % 2 ^ 64) (b / 2 ^ 52 + 51)
+  normal-masked = subst (λ (x : ℕ). Taken b x (b / 2 ^ 52 + 51)) (sym is) taken-normal

@@ -5,6 +5,7 @@ pub mod Shifts
 pub mod Decode
 pub mod Rounding
 pub mod Roots
+pub mod NearOne
 pub mod Digits
 pub mod Special
 pub mod RootCases

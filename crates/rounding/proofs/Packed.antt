@@ -2,15 +2,15 @@
 use mathlib.Core.Path.{_≡_, refl, sym, ap, ap₂, _∙_, subst}
 use mathlib.Core.Logic.{_⊎_, inl, inr}
 use mathlib.Core.Bool.{Bool, true, false, not, cond}
-use Prim.Native.Nat.{ℕ, zero, suc, _+_, _-_, _*_, _/_, _^_, _≤_, _<_}
+use Prim.Native.Nat.{ℕ, zero, suc, _+_, _-_, _*_, _/_, _%_, _^_, _≤_, _<_}
 use native.Mathlib.Nat.{le-refl, le-trans, le-of-eq, lt-of-lt-of-le, lt-of-le-of-lt, not-le-of-lt, eq-or-lt-of-le, mul-le-mul-right, mul-div-cancel}
 use native.Mathlib.Omega.{arith}
-use lib.Dec.{T, ltb, ltb→lt, lt→ltb, nltb→le, lit<}
+use lib.Dec.{T, ltb, not-T, ltb→lt, lt→ltb, nltb→le, lit<}
 use lib.Pow.{pow-add, pow-pos, pow-mono, pow-lt, shl-lt}
 use lib.Ieee.{inf, binary64, size, odd, units, fits, isNan, ofBits, toBits, nanBits}
 use lib.Ieee.Digits.{size-le}
 use lib.Ieee.Fits.{odd-fits}
-use lib.Ieee.Bits.{ofBits-toBits, nanBits-is}
+use lib.Ieee.Bits.{ofBits-toBits, nanBits-is, nanBits-above}
 use lib.Ieee.Exact.{odd-sign}
 use Rattle.float.proofs.Itself.{bits-of-value}
 use Rattle.rounding.proofs.Sticky.{size-gt}
@@ -138,3 +138,10 @@ units-real s q k = go q (ltb (q * 2 ^ k) (2 ^ 2098))
 
 pub no-nan : (b : ℕ) (s : Bool) (q k : ℕ) → ofBits binary64 b ≡ units binary64 s q k → T (not (nanBits binary64 b))
 no-nan b s q k e = subst (λ (x : Bool). T (not x)) (sym (nanBits-is binary64 b ∙ ap isNan e)) (units-real s q k)
+
+-- and none has a pattern up to that of the infinity
+pub small-real : (b : ℕ) → b ≤ 0x7ff0_0000_0000_0000 → T (not (nanBits binary64 b))
+small-real b h = not-T (nanBits binary64 b) (λ t. go b h (ltb→lt 0x7ff0_0000_0000_0000 (b % 2 ^ 63) (subst T (nanBits-above binary64 b) t)))
+  where
+    go : (b : ℕ) → b ≤ 0x7ff0_0000_0000_0000 → 0x7ff0_0000_0000_0000 < b % 2 ^ 63 → ⊥
+    go b h k = omega arith

@@ -10,15 +10,15 @@ use native.Mathlib.Omega.{arith}
 use lib.Dec.{T, leb, eqb, leb→le, nleb→lt, eqb→eq, lit<, lit≤}
 use lib.Pow.{pow-add, pow-pos, pow-mono, shl-lt}
 use lib.Bits.{bitAnd, and-mask}
-use lib.Ieee.{Float, nan, inf, fin, binary64, up, down, nearest, units, round, ofBits, nanBits}
+use lib.Ieee.{Float, nan, inf, fin, binary64, up, down, nearest, units, round, ofBits}
 use lib.Ieee.Fits.{down-pos}
 use lib.Ieee.Exact.{HasValue}
 use lib.Ieee.Nearest.{closest}
 use borrow.Author.Tests.{eq-eqb, ne-eqb}
-use Rattle.rounding.specs.Near.{Sticky, Taken}
+use Rattle.rounding.specs.Near.{Sticky, Taken, Radical}
 use Rattle.rounding.specs.Root.{wholeRoot, nextRoot, doubled, rootUnits, root}
 use Rattle.rounding.proofs.Sticky.{Cmp, cmp, compare-lt, compare-gt, round-sticky, sticky-times}
-use Rattle.rounding.proofs.Packed.{packed, no-nan}
+use Rattle.rounding.proofs.Packed.{packed}
 use Rattle.rounding.proofs.Rounding.{round-high}
 
 -- ---- squares keep the order
@@ -210,7 +210,7 @@ root-big w q h is = at-least (sq-lt-back (2 ^ 53) (q + 1) (lt-of-le-of-lt (go w 
     go : (w : ℕ) → 2 ^ 52 ≤ w → 2 ^ 106 ≤ w * 2 ^ 54
     go w h = omega arith
 
-root-small : (w q : ℕ) → w < 2 ^ 54 → IsRoot (w * 2 ^ 54) q → q < 2 ^ 54
+pub root-small : (w q : ℕ) → w < 2 ^ 54 → IsRoot (w * 2 ^ 54) q → q < 2 ^ 54
 root-small w q h is = sq-lt-back q (2 ^ 54) (lt-of-le-of-lt (is .0) (go w h))
   where
     go : (w : ℕ) → w < 2 ^ 54 → w * 2 ^ 54 < 2 ^ 108
@@ -468,39 +468,26 @@ module _ {b m e : ℕ} (t : Taken b m e) where
   word-is : m / 1024 * 2 ^ bitAnd e 1 % 2 ^ 64 ≡ m / 1024 * 2 ^ (e % 2)
   word-is = ap (λ (x : ℕ). m / 1024 * 2 ^ x % 2 ^ 64) odd-is ∙ mod-eq-of-lt (lt-of-lt-of-le (w-lt m e 0 (t .least) (t .most) (t .whole) (t .far)) (lit≤ tt))
 
-  pub program-word : m / 1024 * 2 ^ bitAnd e 1 % 2 ^ 64 < 2 ^ 54
-  program-word = subst (λ (x : ℕ). x < 2 ^ 54) (sym word-is) (w-lt m e 0 (t .least) (t .most) (t .whole) (t .far))
-
   value : HasValue (ofBits binary64 b) false (m * 2 ^ e) (2 ^ 1136)
   value = subst (λ (x : ℕ). HasValue (ofBits binary64 x) false (m * 2 ^ e) (2 ^ 1136)) (add-zero b) (t .value false)
 
   pos : 0 < m * 2 ^ e
   pos = mul-pos (lt-of-lt-of-le (lit< tt) (t .least)) (pow-pos e)
 
-  module _ (q : ℕ) (is : IsRoot (m / 1024 * 2 ^ bitAnd e 1 % 2 ^ 64 * 2 ^ 54) q) where
-    is' : IsRoot (m / 1024 * 2 ^ (e % 2) * 2 ^ 54) q
-    is' = subst (λ (x : ℕ). IsRoot (x * 2 ^ 54) q) word-is is
+  pub root-bits : (q : ℕ) → IsRoot (m / 1024 * 2 ^ (e % 2) * 2 ^ 54) q
+      → ofBits binary64 (((e - e % 2) / 2 + 485) * 2 ^ 52 + (q + 1) / 2) ≡ root (ofBits binary64 b)
+  root-bits q is =
+      q-packed m e q (t .least) (t .most) (t .whole) (t .far) is
+      ∙ q-units m e q (t .least) (t .most) (t .whole) (t .far) is
+      ∙ sym (root-at (ofBits binary64 b) (m * 2 ^ e) pos value)
 
-    pub program-small : q < 2 ^ 54
-    program-small = q-lt m e q (t .least) (t .most) (t .whole) (t .far) is'
-
-    abbrev k : ℕ
-    k = (e - bitAnd e 1) / 2 + 485
-
-    k-is : k ≡ (e - e % 2) / 2 + 485
-    k-is = ap (λ (x : ℕ). (e - x) / 2 + 485) odd-is
-
-    field-is : k * 2 ^ 52 % 2 ^ 64 ≡ ((e - e % 2) / 2 + 485) * 2 ^ 52
-    field-is = ap (λ (x : ℕ). x * 2 ^ 52 % 2 ^ 64) k-is ∙ mod-eq-of-lt (go ((e - e % 2) / 2 + 485) (half-lt m e 0 (t .least) (t .most) (t .whole) (t .far)))
-      where
-        go : (k : ℕ) → k ≤ 2045 → k * 2 ^ 52 < 2 ^ 64
-        go k h = omega arith
-
-    program-packed : ofBits binary64 (k * 2 ^ 52 % 2 ^ 64 + (q + 1) / 2) ≡ units binary64 false ((q + 1) / 2) ((e - e % 2) / 2 + 485)
-    program-packed = ap (λ (x : ℕ). ofBits binary64 (x + (q + 1) / 2)) field-is ∙ q-packed m e q (t .least) (t .most) (t .whole) (t .far) is'
-
-    pub program-real : T (not (nanBits binary64 (k * 2 ^ 52 % 2 ^ 64 + (q + 1) / 2)))
-    program-real = no-nan (k * 2 ^ 52 % 2 ^ 64 + (q + 1) / 2) false ((q + 1) / 2) ((e - e % 2) / 2 + 485) program-packed
-
-    pub program-root : ofBits binary64 (k * 2 ^ 52 % 2 ^ 64 + (q + 1) / 2) ≡ root (ofBits binary64 b)
-    program-root = program-packed ∙ q-units m e q (t .least) (t .most) (t .whole) (t .far) is' ∙ sym (root-at (ofBits binary64 b) (m * 2 ^ e) pos value)
+  pub radical : Radical b (m / 1024 * 2 ^ bitAnd e 1 % 2 ^ 64) ((e - bitAnd e 1) / 2)
+  radical = go (m / 1024 * 2 ^ bitAnd e 1 % 2 ^ 64) ((e - bitAnd e 1) / 2) word-is (ap (λ (x : ℕ). (e - x) / 2) odd-is)
+    where
+      go : (w k : ℕ) → w ≡ m / 1024 * 2 ^ (e % 2) → k ≡ (e - e % 2) / 2 → Radical b w k
+      go w k u v = record {
+        small = subst (λ (x : ℕ). x < 2 ^ 54) (sym u) (w-lt m e 0 (t .least) (t .most) (t .whole) (t .far));
+        near = subst (λ (x : ℕ). x + 485 ≤ 2045) (sym v) (half-lt m e 0 (t .least) (t .most) (t .whole) (t .far));
+        reads = λ q is.
+            ap (λ (x : ℕ). ofBits binary64 ((x + 485) * 2 ^ 52 + (q + 1) / 2)) v ∙ root-bits q (subst (λ (x : ℕ). IsRoot (x * 2 ^ 54) q) u is);
+      }

@@ -2,9 +2,10 @@
 use mathlib.Core.Path.{_≡_}
 use mathlib.Core.Logic.{_⊎_}
 use mathlib.Core.Bool.{Bool, cond}
-use Prim.Native.Nat.{ℕ, _+_, _*_, _%_, _^_, _≤_, _<_}
+use Prim.Native.Nat.{ℕ, _+_, _*_, _/_, _%_, _^_, _≤_, _<_}
 use lib.Ieee.{Float, binary64, ofBits, units, unlike}
 use lib.Ieee.Exact.{HasValue}
+use Rattle.rounding.specs.Root.{root}
 use Rattle.rounding.specs.Fused.{fused}
 
 -- J stands for a / b: it is equal to it, or it is odd and less than 1 away
@@ -27,6 +28,18 @@ pub record Taken (b m e : ℕ) : Type 0 where
   pub whole : m % 1024 ≡ 0
   pub far : e < 2098
   pub value : (s : Bool) → HasValue (signed s b) s (m * 2 ^ e) (2 ^ 1136)
+
+-- the root of the float with the pattern b has the digits of the root of w * 2 ^ 54, and half + 485 beside them
+pub record Radical (b w half : ℕ) : Type 0 where
+  pub small : w < 2 ^ 54
+  pub near : half + 485 ≤ 2045
+  pub reads : (q : ℕ) → (q * q ≤ w * 2 ^ 54) × (w * 2 ^ 54 < (q + 1) * (q + 1))
+      → ofBits binary64 ((half + 485) * 2 ^ 52 + (q + 1) / 2) ≡ root (ofBits binary64 b)
+
+-- near 1 the pattern of a root is that half way between b and the pattern of 1, rounded down
+pub record Halved (b : ℕ) : Type 0 where
+  pub small : b < 2 ^ 62
+  pub reads : ofBits binary64 ((b + 0x3ff0_0000_0000_0000) / 2) ≡ root (ofBits binary64 b)
 
 -- p has the size and the zeros at its end of a product of two numbers of `Taken`
 pub record Multiplied (p : ℕ) : Type 0 where

@@ -5,7 +5,9 @@ ghost use Prim.Native.Nat.{_+_, _*_, _^_, _≤_, _<_};
 ghost use lib.Dec.{T};
 ghost use lib.Ieee.{binary64, ofBits, toBits, isNan};
 ghost use Rattle.rounding.specs.Root.{root};
-use super::pack::parts_of;
+use super::root::near_one;
+use super::root::packed_root;
+use super::root::radicand_of;
 use super::root::root;
 
 // The digits of two roots.
@@ -73,47 +75,25 @@ pub fn positive_pair(b: u64, c: u64) -> Roots
     requires { ⌜ (0 < b) × (b < 0x7ff0_0000_0000_0000) × (0 < c) × (c < 0x7ff0_0000_0000_0000) ⌝ }
     ensures { λ r. ⌜ (r .a ≡ root (ofBits binary64 b)) × (r .b ≡ root (ofBits binary64 c)) ⌝ }
 {
-    let p = parts_of(b);
-    let m = p.m;
-    let e = p.e;
-    let odd = e & 1;
-    let w = (m >> 10) << odd;
-    let half = (e - odd) >> 1;
-    let r = parts_of(c);
-    let n = r.m;
-    let f = r.e;
-    let add = f & 1;
-    let v = (n >> 10) << add;
-    let part = (f - add) >> 1;
-    let d = pair_digits(w, v);
-    let q = d.a;
-    let s = d.b;
-    let x = f64::from_bits(((half + 485) << 52) + ((q + 1) >> 1));
-    let y = f64::from_bits(((part + 485) << 52) + ((s + 1) >> 1));
+    let v = radicand_of(b);
+    let w = radicand_of(c);
+    let d = pair_digits(v.w, w.w);
+    let x = packed_root(v.half, d.a);
+    let y = packed_root(w.half, d.b);
     Roots { a: x, b: y }
 }
 
-// Whether x is positive and finite, and not 1, whose root is known.
+// Whether x is positive, finite and not near 1: then its root takes digits.
 pub fn ordinary(x: f64) -> bool
     ensures { λ r. ⌜ (r ≡ true → T (not (isNan x)) × (0 < toBits binary64 x) × (toBits binary64 x < 0x7ff0_0000_0000_0000)) ⌝ }
 {
-    if x != x {
-        return false;
+    if x > 0.0 {
+        let b = f64::to_bits(x);
+        if b < 0x7ff0_0000_0000_0000 {
+            return !near_one(b);
+        }
     }
-    if x == 0.0 {
-        return false;
-    }
-    if x == 1.0 {
-        return false;
-    }
-    if x < 0.0 {
-        return false;
-    }
-    let b = f64::to_bits(x);
-    if b == 0x7ff0_0000_0000_0000 {
-        return false;
-    }
-    true
+    false
 }
 
 // Both roots: side by side where both are ordinary, and else one after the other.

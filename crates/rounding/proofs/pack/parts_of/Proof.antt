@@ -1,7 +1,7 @@
 -- `rounding::pack::parts_of` meets its contract. Assumes nothing.
 use borrow.Author.Needs.{needs}
 use native.Mathlib.Omega.{arith}
-use Rattle.rounding.proofs.Decode.{zeros-masked, taken-masked, taken-normal}
+use Rattle.rounding.proofs.Decode.{zeros-masked, taken-masked, normal-masked}
 use Rattle.rounding.proofs.pack.parts_of.Statement.{statement}
 use Rattle.rounding.proofs.pack.parts_of.Tie as tie
 
@@ -27,7 +27,7 @@ returns : tie.Need-returns
 returns c = taken-masked (c .before .args .b) (c .before .pre .0) (c .if1 .taken)
 
 returns-2 : tie.Need-returns-2
-returns-2 c = taken-normal (c .before .args .b) (c .before .pre .1) (c .if1 .left)
+returns-2 c = normal-masked (c .before .args .b) (c .before .pre .1) (c .if1 .left)
 
 pub parts-of-spec : {M : Type 1} → statement M
 parts-of-spec = tie.close (tie.spec sub-z cast-t8 shl-t9 cast-t10 sub-t11 add-t14 returns returns-2)
