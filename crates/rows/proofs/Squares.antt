@@ -1,16 +1,18 @@
--- Two squares that compare equal, zeros of either sign among them, have roots by which every row is normalised alike. Assumes nothing.
-use mathlib.Core.Path.{_≡_, refl, sym, ap, ap₂, _∙_}
-use mathlib.Core.Bool.{Bool, true, false, cond, _||_, Bool·beq, and-eq-true-iff, false≢true}
+-- Two squares that compare equal, zeros of either sign among them, have roots by which every row is normalised alike; and a number compares equal to
+-- itself. Assumes nothing.
+use mathlib.Core.Path.{_≡_, refl, sym, ap, ap₂, subst, _∙_}
+use mathlib.Core.Bool.{Bool, true, false, not, cond, _||_, Bool·beq, and-eq-true-iff, false≢true}
 use Prim.Native.Nat.{ℕ, zero, suc, _*_, _/_, _^_, _<_}
 use native.Mathlib.Nat.{mul-comm, mul-right-comm, mul-pos, mul-div-mul-right, zero-mul, zero-lt-suc}
 use native.Mathlib.Omega.{arith}
-use borrow.Author.Tests.{eqb-true, le-ltb, not-false}
-use lib.Dec.{eqb, eqb·suc-zero}
+use borrow.Author.Tests.{eqb-true, le-ltb}
+use lib.Dec.{T, eqb, eqb·suc-zero}
 use lib.IntN.{ℤ}
-use lib.Ieee.{Float, nan, inf, fin, up, down, lt, eq, ne, ofBits}
+use lib.Ieee.{Float, nan, inf, fin, up, down, lt, eq, ne, isNan, ofBits}
 use lib.Ieee.Fits.{up-pos, down-pos}
 use Rattle.float.specs.Operators.{if_then_else_}
 use Rattle.float.specs.Float as float
+use Rattle.float.proofs.Nans.{nan-test}
 use Rattle.rounding.specs.Root.{root, rootUnits}
 use Rattle.rounding.proofs.Special.{root-zero}
 use Rattle.rows.specs.declared.Row.{Row}
@@ -73,7 +75,15 @@ alike (fin s m e) (fin t n d) r h =
     let both = and-eq-true-iff (eqb a b) (Bool·beq s t || eqb a 0) .0 h in
     finite-alike s m e t n d r (eqb-true a b (both .0), both .1)
 
--- so the root of the last square serves for one that does not differ from it
-pub kept-root : (square last norm : Float) (r : Row) → ne square last ≡ false → norm ≡ root last → normalizedBy norm r ≡ normalizedBy (root square) r
+-- so the root of a square serves for one that compares equal to it
+pub kept-root : (square kept norm : Float) (r : Row) → eq square kept ≡ true → norm ≡ root kept → normalizedBy norm r ≡ normalizedBy (root square) r
+kept-root square kept norm r h k = rw (k, alike square kept r h)
+
+-- a number compares equal to itself
+pub equals-itself : (x : Float) → T (not (isNan x)) → eq x x ≡ true
 unfolding ne
-kept-root square last norm r h k = rw (k, alike square last r (not-false (eq square last) h))
+equals-itself x h = twice (eq x x) (subst (λ (t : Bool). T (not t)) (nan-test x) h)
+  where
+    twice : (t : Bool) → T (not (not t)) → t ≡ true
+    twice true k = refl
+    twice false k = absurd k

@@ -1,2 +1,3 @@
 pub mod Constants
 pub mod Rows
+pub mod Kept

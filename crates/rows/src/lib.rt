@@ -1,9 +1,14 @@
 // Rows: half-planes a*x + b*y <= c that lie flat in a slice, three neighbouring floats each; normalising them, and the 2 by 2 system.
 ghost use mathlib.Core.Path.{_≡_};
+ghost use mathlib.Core.Bool.{true, not};
 ghost use Prim.Native.Nat.{_+_, _*_, _<_};
+ghost use lib.Dec.{T};
 ghost use lib.ListN.{length, set};
+ghost use lib.Ieee.{eq, isNan};
+ghost use Rattle.float.specs.Operators.{_⊕_, _⊗_};
 ghost use Rattle.rows.specs.Rows.{rowsOf, flatOf, rowAt, refusal, residual, noBoundary, normalizedBy, normalized};
 ghost use Rattle.rows.specs.Rows.{normalizing, normalizedFlat, singular, crossing};
+ghost use Rattle.rows.specs.Kept.{Keeps};
 
 // The most rows, or pairs, that are taken.
 pub const MOST_ROWS: usize = 4096;
@@ -31,6 +36,14 @@ pub enum Normalized {
 pub enum Crossing {
     At(Point),
     Refused(u64),
+}
+
+// Two squares with their roots: that of the row in hand, and another.
+pub struct Kept {
+    pub square: f64,
+    pub norm: f64,
+    pub ahead: f64,
+    pub beyond: f64,
 }
 
 // The number of the refusal of so many floats as rows, or pairs, of so many each; 0 where they are taken.
@@ -129,23 +142,82 @@ fn scaled(r: Row, norm: f64) -> Row
     }
 }
 
-// Every row of the slice, n in all. A planner's rows come in pairs of one norm, so the last square's root is kept.
+// The square of a row's norm.
+fn square_of(r: Row) -> f64
+    ensures { λ s. ⌜ s ≡ (r .a ⊗ r .a ⊕ r .b ⊗ r .b) ⌝ }
+{
+    r.a * r.a + r.b * r.b
+}
+
+// The next square behind row k whose root takes digits and is not that of this one; 0 where there is none. Which number this
+// is decides nothing but which root is taken beside another.
+fn following(rows: &[f64], n: usize, k: usize, square: f64) -> f64
+    requires { ⌜ (3 * n ≡ length (now rows)) × (k < n) ⌝ }
+{
+    let mut i = k + 1;
+    while i < n {
+        let next = square_of(row_at(rows, i));
+        if rounding::pair::ordinary(next) {
+            if next != square {
+                return next;
+            }
+        }
+        i += 1;
+    }
+    0.0
+}
+
+// The roots to scale row k with: `norm` is its own, and that of another square was taken beside it. Both are kept until a row
+// has neither square: a planner's rows come in pairs of one. So no row is looked at ahead more than once.
+fn kept_for(rows: &[f64], n: usize, k: usize, square: f64, kept: Kept) -> Kept
+    requires { ⌜ (3 * n ≡ length (now rows)) × (k < n) × T (not (isNan square)) × Keeps kept ⌝ }
+    ensures { λ r. ⌜ (eq square (r .square) ≡ true) × Keeps r ⌝ }
+{
+    if square == kept.square {
+        return kept;
+    }
+    if square == kept.ahead {
+        return Kept {
+            square: kept.ahead,
+            norm: kept.beyond,
+            ahead: kept.square,
+            beyond: kept.norm,
+        };
+    }
+    let ahead = following(rows, n, k, square);
+    let both = rounding::pair::root_pair(square, ahead);
+    Kept {
+        square: square,
+        norm: both.a,
+        ahead: ahead,
+        beyond: both.b,
+    }
+}
+
+// Every row of the slice, n in all.
 pub fn normalize(rows: &mut [f64], n: usize)
     requires { ⌜ 3 * n ≡ length (now rows) ⌝ }
     ensures { λ _. ⌜ now (rows .exit) ≡ flatOf (normalized (rowsOf (now (rows .entry)))) ⌝ }
 {
-    let mut square = 0.0;
-    let mut norm = 0.0;
+    let mut kept = Kept {
+        square: 0.0,
+        norm: 0.0,
+        ahead: 0.0,
+        beyond: 0.0,
+    };
     let mut k = 0usize;
     while k < n {
         let r = row_at(rows, k);
-        let next = r.a * r.a + r.b * r.b;
-        if next != square {
-            square = next;
-            norm = rounding::root::root(next);
+        let square = square_of(r);
+        if rounding::pair::ordinary(square) {
+            kept = kept_for(rows, n, k, square, kept);
+            let u = scaled(r, kept.norm);
+            put_row(rows, k, u);
+        } else {
+            let norm = rounding::root::root(square);
+            let u = scaled(r, norm);
+            put_row(rows, k, u);
         }
-        let u = scaled(r, norm);
-        put_row(rows, k, u);
         k += 1;
     }
 }
