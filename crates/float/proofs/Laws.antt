@@ -1,15 +1,15 @@
 -- What a caller uses of min and max, of abs, and of a number compared with one that is not negative. Assumes nothing.
 use mathlib.Core.Path.{_≡_, refl, sym, _∙_}
 use mathlib.Core.Logic.{_⊎_, inl, inr, ⊎-elim}
-use mathlib.Core.Bool.{Bool, true, false, _||_}
+use mathlib.Core.Bool.{Bool, true, false, _&&_, _||_, false≢true}
 use Prim.Native.Nat.{_*_}
 use native.Mathlib.Nat.{zero-mul}
 use native.Mathlib.Omega.{arith}
 use borrow.Author.Tests.{le-ltb}
 use lib.Dec.{T}
 use lib.Ieee.{Float, nan, inf, fin, binary64, up, down, lt, isNan, fits, ofBits}
-use Rattle.float.specs.Operators.{if_then_else_}
-use Rattle.float.specs.Float.{zero, abs, _⋖_, _⋗_, min, max, Picks}
+use Rattle.float.specs.Operators.{if_then_else_, _≺_, _≈_}
+use Rattle.float.specs.Float.{zero, abs, finite, negative, _⋖_, _⋗_, min, max, Picks}
 use Rattle.float.proofs.Nans.{one-nan}
 use Rattle.float.proofs.Order.{not-both, refuted, carries-over}
 use Rattle.float.proofs.Zeros.{nan-below-none, none-below-nan, below-one-way, below-decides}
@@ -127,3 +127,15 @@ above-size r s h k = carries-over zero s r refl h k
 -- so what is not above zero is above no size
 pub above-no-size : (r s : Float) → lt s zero ≡ false → lt zero r ≡ false → lt s r ≡ false
 above-no-size r s h k = refuted (λ (above : lt s r ≡ true). not-both k (above-size r s h above))
+
+-- no size is a -0, so a comparison takes the larger of a size and any number
+pub larger-size : (x y : Float) → finite x ≡ true → max (abs x) y ≡ (if abs x ≺ y then y else abs x)
+unfolding finite max abs isNan negative _⋖_
+larger-size nan y h = absurd (false≢true h)
+larger-size (inf s) y h = absurd (false≢true h)
+larger-size (fin s m e) y h = by-tests (fin false m e ≺ y) (fin false m e ≈ y)
+  where
+    by-tests : (p q : Bool) → (if p || q && false then y else fin false m e) ≡ (if p then y else fin false m e)
+    by-tests true q = refl
+    by-tests false true = refl
+    by-tests false false = refl

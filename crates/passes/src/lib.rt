@@ -52,7 +52,7 @@ fn beyond_rounding(residual: f64, r: Row, p: Point) -> bool
 
 // The same state, written anew as `line::fresh` does. y is read by itself: read in one with x, which the step wrote apart from
 // it, it would wait for both to reach memory.
-fn fresh(s: State) -> State
+pub fn fresh(s: State) -> State
     ensures { λ t. ⌜ t ≡ s ⌝ }
 {
     let at = s.at;

@@ -109,26 +109,30 @@ fn both_finite(x: f64, y: f64) -> bool
     false
 }
 
-// A finite start outside the box widens it.
+// A finite start outside the box widens it. Of two sizes a comparison gives the larger: no size is a -0.
 fn widened(start: WarmStart, bound: f64) -> f64
     ensures { λ b. ⌜ b ≡ widened start bound ⌝ }
 {
-    if !both_finite(start.x, start.y) {
+    let level = float::settled(start.y); // read by itself, as in `begun`
+    if !both_finite(start.x, level) {
         return bound;
     }
     let x = float::abs(start.x);
-    let y = float::abs(start.y);
+    let y = float::abs(level);
     if x > bound || y > bound {
-        return 1e3 * float::max(x, y);
+        let larger = if x < y { y } else { x };
+        return 1e3 * larger;
     }
     bound
 }
 
-// A start level of exactly 1e6 is the edge of a larger box.
+// A start level of exactly 1e6 is the edge of a larger box. The level is read by itself: read in one with x, from which it may
+// have been stored apart, it would wait for both to reach memory.
 fn begun(start: WarmStart, bound: f64) -> Point
     ensures { λ p. ⌜ p ≡ begun start bound ⌝ }
 {
-    if start.y == 1e6 && bound > 1e6 {
+    let level = float::settled(start.y);
+    if level == 1e6 && bound > 1e6 {
         return Point {
             x: start.x,
             y: bound,
@@ -136,7 +140,7 @@ fn begun(start: WarmStart, bound: f64) -> Point
     }
     Point {
         x: start.x,
-        y: start.y,
+        y: level,
     }
 }
 
@@ -167,7 +171,7 @@ fn both_passes(rows: &[f64], n: usize, task: Task, bound: f64, left: u64) -> Ste
     match got {
         Stepped::Spent => Stepped::Spent,
         Stepped::Failed(rest) => Stepped::Failed(rest),
-        Stepped::Done(t, rest) => passes::deferred(rows, n, f, t, rest),
+        Stepped::Done(t, rest) => passes::deferred(rows, n, f, passes::fresh(t), rest),
     }
 }
 
@@ -240,7 +244,7 @@ fn active_rows(found: Found) -> Active
 {
     match found {
         Found::Failed => line::no_rows(),
-        Found::Done(s) => s.active,
+        Found::Done(s) => line::fresh(s.active),
     }
 }
 

@@ -30,6 +30,9 @@ enum-known-got c = search needs
 enum-known-got-2 : tie.Need-enum-known-got-2
 enum-known-got-2 c = search needs
 
+fresh-requires : tie.Need-fresh-requires
+fresh-requires c κs = search needs
+
 deferred-requires : tie.Need-deferred-requires
 deferred-requires c κs = search needs
 
@@ -55,12 +58,13 @@ returns-2 c =
 
 returns-3 : tie.Need-returns-3
 returns-3 c =
-    let advanced = c .before .before .before .before in
+    let advanced = c .before .before .before .before .before in
     let begins = advanced .before in
     let a = begins .before .before .before .before .before .before .args in
-    let said = sym (c .before .before .got2 .given .1) ∙ advanced .forward .ensures in
+    let said = sym (c .before .before .before .got2 .given .1) ∙ advanced .forward .ensures in
     let e = rw (begins .no-rows .ensures, begins .before .begun .ensures, begins .before .before .frame .ensures) at said in
-    rw (passes-go-on (a .task) (rowsOf (now (a .rows))) (a .bound) (a .left) (was-done _ e), ← begins .before .before .frame .ensures) (c .deferred .ensures)
+    rw (passes-go-on (a .task) (rowsOf (now (a .rows))) (a .bound) (a .left) (was-done _ e), ← begins .before .before .frame .ensures)
+    (rw (c .before .fresh .ensures) at (c .deferred .ensures))
 
 pub both-passes-spec : {M : Type 1} → statement M
 both-passes-spec =
@@ -73,6 +77,7 @@ both-passes-spec =
     enum-told
     enum-known-got
     enum-known-got-2
+    fresh-requires
     deferred-requires
     returns
     returns-2
