@@ -1,4 +1,6 @@
 // What crosses to C: records by value, each with a value in every field for every input, and what the entries make of them.
+#![tactic(auto)]
+
 ghost use Rattle.std.specs.Prelude.{◌≡◌, ◌*◌};
 ghost use Rattle.rows.specs.Rows.{refusal};
 ghost use Rattle.abi.specs.Records.{slot, has_row, row_number, answered, refused, with_rows, unsolved, solved, source, recovered_at};
@@ -12,7 +14,7 @@ use solve::{Answer, Outcome, Solution};
 
 // What to solve, and how; `normalize` is 0 for not normalising, 1 for the source's, and no other number names a mode.
 #[repr(C)]
-#[derive(Drop)]
+#[derive(Clone, Copy)]
 pub struct SolveTask {
     pub feasibility: f64,
     pub scale: f64,
@@ -25,7 +27,7 @@ pub struct SolveTask {
 
 // What a solve answers. A row's number means something only where its flag is true.
 #[repr(C)]
-#[derive(Drop)]
+#[derive(Clone, Copy)]
 pub struct Solved {
     pub refusal: u64,
     pub kind: u64,
@@ -40,7 +42,7 @@ pub struct Solved {
 
 // What the source's own entry answers.
 #[repr(C)]
-#[derive(Drop)]
+#[derive(Clone, Copy)]
 pub struct SourceSolved {
     pub refusal: u64,
     pub kind: u64,
@@ -50,7 +52,7 @@ pub struct SourceSolved {
 
 // The point on two boundaries.
 #[repr(C)]
-#[derive(Drop)]
+#[derive(Clone, Copy)]
 pub struct Crossed {
     pub refusal: u64,
     pub x: f64,
@@ -59,7 +61,7 @@ pub struct Crossed {
 
 // How pairs are taken together.
 #[repr(C)]
-#[derive(Drop)]
+#[derive(Clone, Copy)]
 pub struct LineTask {
     pub feasibility: f64,
     pub scale: f64,
@@ -68,7 +70,7 @@ pub struct LineTask {
 
 // The ends of a line.
 #[repr(C)]
-#[derive(Drop)]
+#[derive(Clone, Copy)]
 pub struct LineBounds {
     pub refusal: u64,
     pub high: f64,
@@ -77,7 +79,7 @@ pub struct LineBounds {
 
 // What to recover, with the caller's collector in the four last.
 #[repr(C)]
-#[derive(Drop)]
+#[derive(Clone, Copy)]
 pub struct RecoveryTask {
     pub upto: usize,
     pub x0: f64,
@@ -93,7 +95,7 @@ pub struct RecoveryTask {
 
 // What recovery answers, with the collector afterwards.
 #[repr(C)]
-#[derive(Drop)]
+#[derive(Clone, Copy)]
 pub struct RecoveredPoint {
     pub refusal: u64,
     pub x: f64,

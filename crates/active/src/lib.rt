@@ -1,24 +1,26 @@
 // The two active rows of an answer, and the collector's own functions on them.
+#![tactic(auto)]
+
 ghost use Rattle.std.specs.Prelude.{◌≡◌};
 ghost use Rattle.active.specs.Active.{no_rows, set_first, set_second};
 ghost use Rattle.active.specs.Collector.{held, collected};
 
 // The place for an active row. "No row" is a case of its own and no number.
-#[derive(Drop)]
+#[derive(Clone, Copy)]
 pub enum Slot {
     NoRow,
     Holds(usize),
 }
 
 // The two active rows: on a line those of its upper and its lower end.
-#[derive(Drop)]
+#[derive(Clone, Copy)]
 pub struct Active {
     pub first: Slot,
     pub second: Slot,
 }
 
 // A caller's collector of active rows: off, it stays off.
-#[derive(Drop)]
+#[derive(Clone, Copy)]
 pub enum Collector {
     Off,
     On(Active),

@@ -1,4 +1,6 @@
 // What the entries over a caller's memory compute, by value: what a collector holds afterwards, what is answered and refused.
+#![tactic(auto)]
+
 ghost use Rattle.std.specs.Prelude.{◌≡◌, leb};
 ghost use Rattle.active.specs.Active.{no_rows, set_first, set_second};
 ghost use Rattle.by_value.specs.ByValue.{kept, answered, remains, few_rows, too_many};
@@ -12,7 +14,7 @@ use solve::Outcome;
 pub const FEW: usize = 64;
 
 // What `recover_collecting` answers: a point, or a refusal by its number.
-#[derive(Drop)]
+#[derive(Clone, Copy)]
 pub enum Recovery {
     At(Point),
     Refused(u64),

@@ -34,8 +34,8 @@ use Rattle.once.specs.declared.Task.{Task}
 use Rattle.solve.specs.declared.Answer.{Answer}
 use Rattle.solve.specs.declared.Answer.TheVariants.{Point, Level, Nothing}
 use Rattle.solve.specs.declared.Outcome.TheVariants.{Answered, Stopped}
-use Rattle.forward.specs.Forward.{violated, frame, second_try, repair, after_trial, pivot, forward}
-use Rattle.deferred.specs.Deferred.{excess, worst, none, deferred}
+use Rattle.passes.specs.Passes.{violated, frame, second_try, repair, after_trial, pivot, forward}
+use Rattle.passes.specs.Passes.{excess, worst, none, deferred}
 use Rattle.once.specs.Once.{prepared, widened, begun, passes, saturated, on_box, lone, many, once}
 use Rattle.solve.specs.Solve.{solves, all_solves, last_of, count, rows_within, answer, active_rows, answered, finished, allowed, refusal_of, taken, solve}
 

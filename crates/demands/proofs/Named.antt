@@ -22,8 +22,8 @@ use Rattle.once.specs.Once.{passes, lone, many, once}
 use Rattle.solve.specs.Solve.{active_rows, solve}
 use Rattle.solve.proofs.Lengths.{length-prepared, length-once}
 use Rattle.demands.proofs.Outcomes.{answer_has}
-use Rattle.forward.proofs.Named.{forward_below}
-use Rattle.deferred.proofs.Named.{deferred_below}
+use Rattle.passes.proofs.Named.{forward_below}
+use Rattle.passes.proofs.DeferredNamed.{deferred_below}
 
 -- ---- one solve
 

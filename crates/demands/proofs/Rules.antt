@@ -16,7 +16,7 @@ use Rattle.step.specs.declared.State.{State}
 use Rattle.step.specs.declared.Found.TheVariants.{Failed, Done}
 use Rattle.once.specs.declared.WarmStart.{WarmStart}
 use Rattle.solve.specs.declared.Answer.TheVariants.{Nothing}
-use Rattle.forward.specs.Forward.{forward}
+use Rattle.passes.specs.Passes.{forward}
 use Rattle.once.specs.Once.{widened, begun}
 use Rattle.solve.specs.Solve.{answer, active_rows}
 

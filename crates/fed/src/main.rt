@@ -3,6 +3,8 @@
 // have four bytes, the lowest first. What is not taken of a portion is offered again with the next.
 //
 // Prints the lines of each section, and then how many portions there were, and of how many other bytes were taken.
+#![tactic(auto)]
+
 ghost use Rattle.std.specs.Prelude.{◌≡◌, ◌+◌, ◌≤◌, ◌<◌, ◌^◌, min, length};
 
 use link::Fed;

@@ -1,5 +1,7 @@
 // Float helpers: Rust's functions on one or two f64, with the meaning that specs/Float.antt gives each, and
 // the way between a float and its bits.
+#![tactic(auto)]
+
 ghost use Rattle.std.specs.Prelude.{◌≡◌, false};
 ghost use Rattle.std.specs.Float.Ieee as Ieee;
 ghost use Rattle.float.specs.Float.{abs, finite, min, max, clamp};

@@ -1,4 +1,6 @@
 // Bytes of rows, cut anywhere, gathered into floats: whole ones are stored, and what is begun of one is a word.
+#![tactic(auto)]
+
 ghost use Rattle.std.specs.Prelude.{◌≡◌, ℕ, ◌+◌, ◌*◌, ◌≤◌, min, length};
 ghost use Rattle.record.specs.Sizes.{most_floats};
 ghost use Rattle.record.specs.Bytes.{floats as floatsOf};

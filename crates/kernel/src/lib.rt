@@ -1,5 +1,7 @@
 // The static library: every public entry for C. Rows are lent. Everything else goes in by value, and what comes back is a
 // record by value whose first number is the refusal's, 0 where there is none; every field of it has a value for every input.
+#![tactic(auto)]
+
 ghost use Rattle.std.specs.Prelude.{◌≡◌, length};
 ghost use Rattle.rounding.specs.Root.{root};
 ghost use Rattle.rounding.specs.Fused.{fused};
@@ -28,14 +30,14 @@ use step::Frame;
 pub extern "C" fn ravelsickle_root(x: f64) -> f64
     ensures { result ≡ root x }
 {
-    root::root(x)
+    rounding::root::root(x)
 }
 
 #[unsafe(no_mangle)]
 pub extern "C" fn ravelsickle_fused(x: f64, y: f64, z: f64) -> f64
     ensures { result ≡ fused x y z }
 {
-    fused::fused(x, y, z)
+    rounding::fused::fused(x, y, z)
 }
 
 #[unsafe(no_mangle)]

@@ -1,5 +1,7 @@
 // Runs every entry of `lent` on worked cases, and prints what comes of each, a line a case: the collector that an entry leaves, or whether
 // rows as records give what the same floats give.
+#![tactic(auto)]
+
 ghost use Rattle.std.specs.Prelude.{◌≡◌, ◌+◌, ◌*◌, ◌≤◌, length, take};
 ghost use Rattle.rows.specs.Constants.{most_rows};
 ghost use Rattle.active.specs.Active.{no_rows, set_first, set_second};
@@ -23,7 +25,7 @@ const ROWS: usize = rows::MOST_ROWS + 1;
 // ---- each of these lends a record or rows to entries of `lent`, and gives back what they leave
 
 // A collector after `set_first`, then `set_second`, then `clear`.
-#[derive(Drop)]
+#[derive(Clone, Copy)]
 struct Left {
     first: Active,
     second: Active,
@@ -46,7 +48,7 @@ fn settings(c: Active, i: usize, j: usize) -> Left
     }
 }
 
-#[derive(Drop)]
+#[derive(Clone, Copy)]
 struct Collected {
     outcome: Outcome,
     active: Active,
@@ -65,7 +67,7 @@ fn collecting(rows: &mut [f64], task: Task, allowance: u64, c: Active) -> Collec
     }
 }
 
-#[derive(Drop)]
+#[derive(Clone, Copy)]
 struct Found {
     answer: Recovery,
     active: Active,
@@ -83,7 +85,7 @@ fn recovering(rows: &[f64], upto: usize, at: Point, f: Frame, c: Active) -> Foun
     }
 }
 
-#[derive(Drop)]
+#[derive(Clone, Copy)]
 struct Records {
     outcome: Outcome,
     rows: [Row; ROWS],

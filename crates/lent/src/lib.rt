@@ -1,4 +1,6 @@
 // The entries over what a caller lends: a collector that is a record, and rows that are records.
+#![tactic(auto)]
+
 ghost use Rattle.std.specs.Prelude.{◌≡◌, ◌+◌, ◌*◌, ◌≤◌, ◌<◌, length, set, take};
 ghost use Rattle.active.specs.Active.{no_rows, set_first, set_second};
 ghost use Rattle.active.specs.declared.Collector.TheVariants.{On};

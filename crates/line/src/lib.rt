@@ -1,4 +1,6 @@
 // One dimension: the numbers t with a*t <= b for every term, and the rows that bound them.
+#![tactic(auto)]
+
 ghost use Rattle.std.specs.Prelude.{◌≡◌, true, false, map, ◌+◌, ◌*◌, ◌≤◌, ◌<◌, length, take};
 ghost use Rattle.readings.specs.Readings.{within};
 ghost use Rattle.rows.specs.Rows.{rows_of};
@@ -9,7 +11,7 @@ use active::{Active, Slot};
 use rows::Row;
 
 // a*t <= b, and the size of the terms that cancelled into a.
-#[derive(Drop)]
+#[derive(Clone, Copy)]
 pub struct Term {
     pub a: f64,
     pub b: f64,
@@ -17,7 +19,7 @@ pub struct Term {
 }
 
 // The numbers from `low` to `high`, NaN at both ends where there are none, and the rows at the ends.
-#[derive(Drop)]
+#[derive(Clone, Copy)]
 pub struct Span {
     pub high: f64,
     pub low: f64,
@@ -25,7 +27,7 @@ pub struct Span {
 }
 
 // What a term cuts off a span: nothing, all of it, or what lies above or below a number.
-#[derive(Drop)]
+#[derive(Clone, Copy)]
 pub enum Offcut {
     Nothing,
     All,
@@ -34,28 +36,28 @@ pub enum Offcut {
 }
 
 // What a term leaves of a span.
-#[derive(Drop)]
+#[derive(Clone, Copy)]
 pub enum Narrowed {
     Empty,
     Kept(Span),
 }
 
 // A span and the readings left; or too few were left.
-#[derive(Drop)]
+#[derive(Clone, Copy)]
 pub enum Reduced {
     Done(Span, u64),
     Spent,
 }
 
 // The feasibility tolerance, and the factor by which it is scaled where a step goes from two dimensions to one.
-#[derive(Drop)]
+#[derive(Clone, Copy)]
 pub struct Tolerances {
     pub feasibility: f64,
     pub scale: f64,
 }
 
 // What `lp_1d` answers: the highest and the lowest number, or a refusal by its number.
-#[derive(Drop)]
+#[derive(Clone, Copy)]
 pub enum Bounds {
     Between(f64, f64),
     Refused(u64),

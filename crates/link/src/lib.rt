@@ -1,4 +1,6 @@
 // The entries of a link: a reader that is fed portions of bytes, cut anywhere, and is then told the end.
+#![tactic(auto)]
+
 ghost use Rattle.std.specs.Prelude.{◌≡◌, length};
 ghost use Rattle.text.specs.Text.{written};
 ghost use Rattle.reader.specs.Reader.{started, refusal_of, taken, taken_in, fed, said, end_text, ended};
@@ -11,7 +13,7 @@ pub const LINE: usize = text::LONGEST_LINE + text::LONGEST_END;
 // What an entry leaves: the refusal's number, 0 where there is none; how many bytes of the portion it took; how many bytes it printed at
 // the start of what was lent for them; and the link.
 #[repr(C)]
-#[derive(Drop)]
+#[derive(Clone, Copy)]
 pub struct Fed {
     pub refusal: u64,
     pub taken: usize,

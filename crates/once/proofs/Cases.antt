@@ -16,8 +16,8 @@ use Rattle.step.specs.declared.State.{State}
 use Rattle.step.specs.declared.Found.{Found}
 use Rattle.step.specs.declared.Found.TheVariants.{Failed, Done}
 use Rattle.step.specs.Step.{onward, ◌>>?◌}
-use Rattle.forward.specs.Forward.{frame, forward}
-use Rattle.deferred.specs.Deferred.{deferred}
+use Rattle.passes.specs.Passes.{frame, forward}
+use Rattle.passes.specs.Passes.{deferred}
 use Rattle.once.specs.declared.Normalize.TheVariants.{Source}
 use Rattle.once.specs.declared.Task.{Task}
 use Rattle.once.specs.Once.{prepared, begun, passes, preparing, paying, leaves}

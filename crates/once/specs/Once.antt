@@ -21,8 +21,8 @@ use Rattle.once.specs.declared.Prepared.{Prepared}
 use Rattle.once.specs.declared.Prepared.TheVariants as PreparedIs
 use Rattle.once.specs.declared.Round.{Round}
 use Rattle.once.specs.declared.Round.TheVariants as round_is
-use Rattle.forward.specs.Forward.{frame, forward}
-use Rattle.deferred.specs.Deferred.{deferred}
+use Rattle.passes.specs.Passes.{frame, forward}
+use Rattle.passes.specs.Passes.{deferred}
 
 -- the rows as a solve of two or more works on them
 unfoldable pub prepared : Normalize → List Row → Counted (List Row)

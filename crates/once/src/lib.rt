@@ -1,4 +1,6 @@
 // One solve over one box: the rows prepared, the box that a start widens, both passes, and whether the answer sits on the box.
+#![tactic(auto)]
+
 ghost use Rattle.std.specs.Prelude.{◌≡◌, ◌&&◌, ◌*◌, length};
 ghost use Rattle.float.specs.Float.{finite};
 ghost use Rattle.readings.specs.Readings.{within};
@@ -11,7 +13,7 @@ use rows::{Point, Row};
 use step::{Found, State, Stepped};
 
 // Where a solve starts, and how many leading rows its forward pass skips.
-#[derive(Drop)]
+#[derive(Clone, Copy)]
 pub struct WarmStart {
     pub x: f64,
     pub y: f64,
@@ -19,13 +21,13 @@ pub struct WarmStart {
 }
 
 // How the lent rows are normalised before each solve.
-#[derive(Drop)]
+#[derive(Clone, Copy)]
 pub enum Normalize {
     Off,
     Source,
 }
 
-#[derive(Drop)]
+#[derive(Clone, Copy)]
 pub struct Task {
     pub tol: Tolerances,
     pub start: WarmStart,
@@ -33,14 +35,14 @@ pub struct Task {
 }
 
 // The rows are prepared, with the readings left; or too few were left, and nothing was written.
-#[derive(Drop)]
+#[derive(Clone, Copy)]
 pub enum Prepared {
     Done(u64),
     Spent,
 }
 
 // One solve over one box: what it found, off the box or on it, with the readings left; or too few were left.
-#[derive(Drop)]
+#[derive(Clone, Copy)]
 pub enum Round {
     Off(Found, u64),
     OnBox(State, u64),
@@ -137,16 +139,16 @@ fn both_passes(rows: &[f64], n: usize, task: Task, bound: f64, left: u64) -> Ste
 {
     let tol = task.tol;
     let start = task.start;
-    let f = forward::frame(bound, tol.feasibility, tol.scale);
+    let f = passes::frame(bound, tol.feasibility, tol.scale);
     let s = State {
         at: begun(start, bound),
         active: active::no_rows(),
     };
-    let got = forward::forward(rows, n, start.skip, tol.scale, f, s, left);
+    let got = passes::forward(rows, n, start.skip, tol.scale, f, s, left);
     match got {
         Stepped::Spent => Stepped::Spent,
         Stepped::Failed(rest) => Stepped::Failed(rest),
-        Stepped::Done(t, rest) => deferred::deferred(rows, n, f, step::fresh(t), rest),
+        Stepped::Done(t, rest) => passes::deferred(rows, n, f, step::fresh(t), rest),
     }
 }
 

@@ -1,4 +1,6 @@
 // The same y, another x.
+#![tactic(auto)]
+
 ghost use Rattle.std.specs.Prelude.{◌≡◌, ◌&&◌, ◌*◌, ◌≤◌, length, take};
 ghost use Rattle.float.specs.Float.{finite};
 ghost use Rattle.readings.specs.Readings.{within};
@@ -10,27 +12,27 @@ ghost use Rattle.project.specs.Project.{works, first_that_works, bounded, cut, i
 use rows::{Point, Row};
 use scan::Scan;
 
-#[derive(Drop)]
+#[derive(Clone, Copy)]
 pub struct Interval {
     pub low: f64,
     pub high: f64,
 }
 
 // What a row leaves of an interval.
-#[derive(Drop)]
+#[derive(Clone, Copy)]
 pub enum Cut {
     Empty,
     Keep(Interval),
 }
 
-#[derive(Drop)]
+#[derive(Clone, Copy)]
 pub enum Fixed {
     Nowhere,
     At(f64),
 }
 
 // An interval and the readings left; none and the readings left; or too few were left.
-#[derive(Drop)]
+#[derive(Clone, Copy)]
 pub enum Spanned {
     Keep(Interval, u64),
     Empty(u64),
@@ -38,7 +40,7 @@ pub enum Spanned {
 }
 
 // An x and the readings left; none and the readings left; or too few were left.
-#[derive(Drop)]
+#[derive(Clone, Copy)]
 pub enum Projected {
     At(f64, u64),
     Nowhere(u64),
@@ -114,7 +116,7 @@ fn cut_by(r: Row, y: f64, eps: f64, v: Interval) -> Cut
     ensures { result ≡ cut eps y r v }
 {
     if finite_row(r) {
-        let rhs = fused::fused(-r.b, y, r.c + eps);
+        let rhs = rounding::fused::fused(-r.b, y, r.c + eps);
         if float::is_finite(rhs) {
             return bounded(r.a, rhs, v);
         }

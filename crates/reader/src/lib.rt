@@ -1,5 +1,7 @@
 // Records read from bytes that come in portions, cut anywhere. The state between portions is a `Link` by value, and in lent
 // memory what stands before the rows of the record in hand, and the floats of its rows: nothing of a body that is skipped.
+#![tactic(auto)]
+
 ghost use Rattle.std.specs.Prelude.{◌≡◌, true, ◌+◌, ◌≤◌, ◌<◌, ◌^◌, length, take};
 ghost use Rattle.std.proofs.lemmas.List.Edits.{sets};
 ghost use Rattle.text.specs.Sizes.{longest_line, longest_end};
@@ -14,7 +16,7 @@ use solve::Outcome;
 pub const MOST_BYTES: u64 = 0x8000_0000_0000_0000;
 
 #[repr(C)]
-#[derive(Drop)]
+#[derive(Clone, Copy)]
 pub struct Link {
     // 1 from the start until the end is told.
     pub live: u64,
@@ -29,7 +31,7 @@ pub struct Link {
 }
 
 // What a turn leaves: the link, how many bytes of the portion it took, and where the printed text ends.
-#[derive(Drop)]
+#[derive(Clone, Copy)]
 pub struct Took {
     pub link: Link,
     pub taken: usize,
@@ -142,7 +144,7 @@ fn take_fields(passed: usize, head: &mut [u8; record::ROWS_AT], bytes: &[u8]) ->
 // ---- bytes of rows
 
 // What bytes of rows come to: how many were taken, and the word afterwards.
-#[derive(Drop)]
+#[derive(Clone, Copy)]
 struct Rows {
     taken: usize,
     word: u64,

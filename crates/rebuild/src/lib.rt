@@ -1,4 +1,6 @@
 // Another boundary: candidates, each pinned and tested, and the search for the best.
+#![tactic(auto)]
+
 ghost use Rattle.std.specs.Prelude.{◌≡◌, ◌||◌, ◌+◌, ◌*◌, ◌≤◌, ◌<◌, eqb, length, take};
 ghost use Rattle.readings.specs.Readings.{within};
 ghost use Rattle.rows.specs.Rows.{rows_of, row_at};
@@ -13,14 +15,14 @@ use scan::Scan;
 use step::{Found, Frame, State, Stepped};
 
 // What a row makes of the search: it goes on with the best so far, or it is won.
-#[derive(Drop)]
+#[derive(Clone, Copy)]
 pub enum Turn {
     On(Found),
     Won(State),
 }
 
 // The same with the readings left; or too few were left.
-#[derive(Drop)]
+#[derive(Clone, Copy)]
 pub enum Turned {
     On(Found, u64),
     Won(State, u64),

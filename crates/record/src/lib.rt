@@ -1,4 +1,6 @@
 // A record's bytes, and what comes of them.
+#![tactic(auto)]
+
 ghost use Rattle.std.specs.Prelude.{◌≡◌, ◌+◌, ◌≤◌, ◌<◌, ◌^◌, length};
 ghost use Rattle.record.specs.Sizes.{rows_at, most_floats};
 ghost use Rattle.record.specs.Bytes.{field, float};

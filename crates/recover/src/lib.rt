@@ -1,4 +1,6 @@
 // Recovery of a prefix after a failed step: another boundary, or else the point as it was.
+#![tactic(auto)]
+
 ghost use Rattle.std.specs.Prelude.{◌≡◌, ◌*◌, ◌≤◌, length};
 ghost use Rattle.readings.specs.Readings.{within};
 ghost use Rattle.rows.specs.Rows.{rows_of};
@@ -12,7 +14,7 @@ use rows::Point;
 use step::{Found, Frame, State, Stepped};
 
 // What `recover_2d_prefix` answers: the point and the collector, or a refusal by its number.
-#[derive(Drop)]
+#[derive(Clone, Copy)]
 pub enum Recovered {
     At(Point, Collector),
     Refused(u64),

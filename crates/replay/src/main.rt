@@ -6,6 +6,8 @@
 //     norm n a b c .. = a b c ..
 //     line AUTONAN TOL n a b .. = MAX MIN
 //     recover UPTO X Y EPS REDUCED BOX FIRST SECOND n a b c .. = X Y FIRST SECOND | refused K FIRST SECOND
+#![tactic(auto)]
+
 use active::{Active, Collector, Slot};
 use line::{Bounds, Tolerances};
 use recover::Recovered;
@@ -18,14 +20,14 @@ use vectors::Number;
 fn root(text: &[u8], at: usize) -> bool {
     let mut x = [0.0; 1];
     let read = vectors::read_floats(text, at, &mut x);
-    let answer = [root::root(x[0])];
+    let answer = [rounding::root::root(x[0])];
     vectors::expected(text, read.at, &answer)
 }
 
 fn fused(text: &[u8], at: usize) -> bool {
     let mut m = [0.0; 3];
     let read = vectors::read_floats(text, at, &mut m);
-    let answer = [fused::fused(m[0], m[1], m[2])];
+    let answer = [rounding::fused::fused(m[0], m[1], m[2])];
     vectors::expected(text, read.at, &answer)
 }
 

@@ -1,16 +1,11 @@
 -- What a positive float's pattern is read as, with a sign set beside it: the digits times a power of two.
-use mathlib.Core.Path.{◌≡◌, refl}
-use mathlib.Core.Bool.{Bool, true, false}
-use Prim.Native.Nat.{ℕ, zero, suc, ◌+◌, ◌-◌, ◌*◌, ◌/◌, ◌%◌, ◌^◌, ◌≤◌, ◌<◌}
-use native.Mathlib.Nat.{lt_of_lt_of_le, lt_of_le_of_lt, add-zero, mul-one, mod-lt, mod-eq_of_lt, mul-mod_left}
-use native.Mathlib.Omega.{arith}
-use lib.Dec.{lit≤}
-use lib.Pow.{pow_pos}
+use Rattle.std.proofs.Common.{◌≡◌, ℕ, zero, suc, ◌+◌, ◌-◌, ◌*◌, ◌/◌, ◌%◌, ◌^◌, ◌<◌, ◌≤◌, Bool, true, false, refl, lt_of_lt_of_le, lt_of_le_of_lt, add-zero, mod-lt, mod-eq_of_lt, mul-one, arith, lit≤, pow_pos, ne_eqb, le-leb}
+use native.Mathlib.Nat.{mul-mod_left}
 use lib.Bits.{bit_and, bit_or, and_mask, or_shifted_r}
 use lib.Count.{count_leading_zeros, leading_top}
 use lib.Ieee.{binary64, of_fields, of_bits}
 use lib.Ieee.Exact.{HasValue, odd_sign}
-use borrow.Author.Tests.{le-leb, lt-leb, ne_eqb}
+use borrow.Author.Tests.{lt-leb}
 use Rattle.rounding.specs.Near.{Taken, signed}
 use Rattle.rounding.proofs.Powers.{one_shift, two_shifts, shift_under, shift_over, exponent_under}
 use Rattle.rounding.proofs.Whole.{rescale}

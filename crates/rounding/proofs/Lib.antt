@@ -5,5 +5,16 @@ pub mod Packed
 pub mod Shifts
 pub mod Decode
 pub mod Rounding
+pub mod Roots
+pub mod NearOne
+pub mod Digits
 pub mod Special
 pub mod RootCases
+pub mod Words
+pub mod Sums
+pub mod Products
+pub mod FusedCases
+pub mod Between
+pub mod Meaning
+pub mod MeaningFused
+pub mod Unique

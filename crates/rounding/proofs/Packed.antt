@@ -1,18 +1,10 @@
 -- The bit pattern of q * 2 ^ k units of 2 ^ -1074, infinities included, and what a pattern is read as.
-use mathlib.Core.Path.{◌≡◌, refl, ◌∙◌}
-use mathlib.Core.Logic.{◌⊎◌, inl, inr}
-use mathlib.Core.Bool.{Bool, true, false, not, cond}
-use Prim.Native.Nat.{ℕ, zero, suc, ◌+◌, ◌-◌, ◌*◌, ◌/◌, ◌%◌, ◌^◌, ◌≤◌, ◌<◌}
-use native.Mathlib.Nat.{le_refl, lt_of_le_of_lt, eq-or-lt_of_le, mul-div_cancel}
-use native.Mathlib.Omega.{arith}
-use lib.Dec.{T, ltb, lit<, lit≤}
-use lib.Pow.{pow_pos, shl_lt}
+use Rattle.std.proofs.Common.{◌≡◌, ℕ, zero, suc, ◌+◌, ◌-◌, ◌*◌, ◌/◌, ◌%◌, ◌^◌, ◌<◌, ◌≤◌, Bool, true, false, cond, not, T, ltb, ◌⊎◌, refl, ◌∙◌, inl, inr, le_refl, lt_of_le_of_lt, eq-or-lt_of_le, mul-div_cancel, arith, lit<, lit≤, pow_pos, shl_lt, le-ltb, lt-ltb}
 use lib.Ieee.{inf, binary64, size, odd, units, is_nan, of_bits, to_bits, nan_bits}
 use lib.Ieee.Digits.{size-le}
 use lib.Ieee.Fits.{odd-fits}
 use lib.Ieee.Bits.{of_bits-to_bits, nan_bits_is, nan_bits_above}
 use lib.Ieee.Exact.{odd_sign}
-use borrow.Author.Tests.{lt-ltb, le-ltb}
 use Rattle.float.proofs.Itself.{bits_of_value}
 use Rattle.rounding.specs.Near.{signed}
 use Rattle.rounding.proofs.Powers.{two_powers, shift_under, shift_over}

@@ -1,8 +1,5 @@
 -- Numbers times powers of two: equal where the exponents add up alike, and within bounds by the sum of the exponents.
-use mathlib.Core.Path.{◌≡◌, refl, sym, ◌∙◌}
-use Prim.Native.Nat.{ℕ, ◌+◌, ◌*◌, ◌^◌, ◌≤◌, ◌<◌}
-use native.Mathlib.Nat.{le_trans, le_of_eq, lt_of_lt_of_le, lt_of_not-le, not-le_of_lt, mul_assoc, mul-le-mul_right}
-use lib.Pow.{pow-add, pow_mono, shl_lt}
+use Rattle.std.proofs.Common.{◌≡◌, ℕ, ◌+◌, ◌*◌, ◌^◌, ◌<◌, ◌≤◌, sym, refl, ◌∙◌, le_trans, le_of_eq, lt_of_lt_of_le, mul-le-mul_right, mul_assoc, lt_of_not-le, not-le_of_lt, pow_mono, pow-add, shl_lt}
 
 pub one_shift : (x i j k : ℕ) → i + j ≡ k → x * 2 ^ i * 2 ^ j ≡ x * 2 ^ k
 one_shift x i j k e = rw (← e, pow-add 2 i j, mul_assoc x (2 ^ i) (2 ^ j))

@@ -1,15 +1,10 @@
 -- The cases that the root settles by tests on the float, and what those tests say of its bits.
-use mathlib.Core.Path.{◌≡◌, refl, sym, ap, ◌∙◌}
-use mathlib.Core.Bool.{Bool, true, false, not, true≢false, false≢true}
-use Prim.Native.Nat.{ℕ, zero, suc, ◌+◌, ◌*◌, ◌%◌, ◌^◌, ◌≤◌, ◌<◌}
-use native.Mathlib.Nat.{le_antisymm, mod-eq_of_lt, zero-mul, eq_of_mul-eq-mul_right, pos_of_ne-zero}
-use native.Mathlib.Omega.{arith}
-use lib.IntN.{ℤ}
-use lib.Dec.{T, ltb, eqb, eqb→eq, lit<}
+use Rattle.std.proofs.Common.{◌≡◌, ℕ, zero, suc, ◌+◌, ◌*◌, ◌%◌, ◌^◌, ◌<◌, ◌≤◌, Bool, true, false, not, T, eqb, ltb, ℤ, sym, refl, ap, ◌∙◌, true≢false, mod-eq_of_lt, le_antisymm, pos_of_ne-zero, zero-mul, arith, lit<, eqb→eq, ltb-false, ne_eqb}
+use mathlib.Core.Bool.{false≢true}
+use native.Mathlib.Nat.{eq_of_mul-eq-mul_right}
 use lib.Ieee.{Float, nan, inf, fin, binary64, up, down, fits, is_nan, eq, lt, ne, of_bits, to_bits}
 use lib.Ieee.Fits.{up_pos, and_l}
 use lib.Ieee.Bits.{of_bits-to_bits, to_bits-lt, nan_bits_is, nan_bits_above, is_false}
-use borrow.Author.Tests.{ltb-false, ne_eqb}
 use Rattle.rounding.specs.Root.{root}
 use Rattle.rounding.proofs.Special.{root_infinity, root-zero}
 use Rattle.rounding.proofs.Packed.{inf_bits}

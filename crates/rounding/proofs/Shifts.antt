@@ -1,11 +1,7 @@
 -- Shifts and masks of words, as the program takes them, and `Sticky`.
-use mathlib.Core.Path.{◌≡◌, refl, sym, ap, ◌∙◌}
-use mathlib.Core.Logic.{inl, inr}
-use Prim.Native.Nat.{ℕ, ◌+◌, ◌-◌, ◌*◌, ◌/◌, ◌%◌, ◌^◌, ◌≤◌, ◌<◌}
-use native.Mathlib.Nat.{lt_of_lt_of_le, lt_of_le_of_lt, mul-le-mul_right, zero-mul, div-mul-le_self, lt-div-mul-add, mod-eq_of_lt}
-use native.Mathlib.Omega.{arith}
+use Rattle.std.proofs.Common.{◌≡◌, ℕ, ◌+◌, ◌-◌, ◌*◌, ◌/◌, ◌%◌, ◌^◌, ◌<◌, ◌≤◌, sym, refl, ap, ◌∙◌, inl, inr, lt_of_lt_of_le, lt_of_le_of_lt, mul-le-mul_right, mod-eq_of_lt, zero-mul, div-mul-le_self, arith, pow_pos, pow_mono, pow-add}
+use native.Mathlib.Nat.{lt-div-mul-add}
 use lib.Arith.{lt_of_le-ne}
-use lib.Pow.{pow-add, pow_pos, pow_mono}
 use lib.Bits.{bit_or, or_step, or_zero_r}
 use Rattle.rounding.specs.Near.{Sticky}
 

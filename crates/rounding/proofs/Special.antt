@@ -1,11 +1,7 @@
 -- What `root` and `fused` give where nothing is rounded: at a NaN, at an infinity, at a zero, and below zero.
-use mathlib.Core.Path.{◌≡◌, refl, ap}
-use mathlib.Core.Bool.{Bool, true, false, not, false≢true}
-use Prim.Native.Nat.{ℕ, ◌+◌, ◌*◌}
-use native.Mathlib.Omega.{arith}
-use lib.IntN.{ℤ, pos}
+use Rattle.std.proofs.Common.{◌≡◌, ℕ, ◌+◌, ◌*◌, Bool, true, false, not, ℤ, pos, refl, ap, arith, ltb-true, ne_eqb}
+use mathlib.Core.Bool.{false≢true}
 use lib.Ieee.{Float, nan, inf, fin, binary64, up, down, unlike, add, mul, lt, of_bits}
-use borrow.Author.Tests.{ne_eqb, ltb-true}
 use Rattle.rounding.specs.Root.{root}
 use Rattle.rounding.specs.Fused.{product, fused}
 

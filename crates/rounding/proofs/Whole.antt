@@ -1,13 +1,6 @@
 -- A finite binary64 value is a whole number of 2 ^ -1074, and two that fit and have one value are one value.
-use mathlib.Core.Path.{◌≡◌, refl, ap}
-use mathlib.Core.Bool.{Bool, true, false}
-use Prim.Native.Nat.{ℕ, zero, suc, ◌-◌, ◌*◌, ◌/◌, ◌^◌, ◌≤◌, ◌<◌}
-use native.Mathlib.Nat.{le_trans, le_antisymm, mul_assoc, mul_right_comm, mul-one, zero-mul, mul-le-mul_right, mul-pos, mul-lt-mul_of_pos_right}
-use native.Mathlib.Nat.{lt_of_mul-lt-mul_right, mul-div_cancel, eq_of_mul-eq-mul_right}
-use native.Mathlib.Omega.{arith}
-use lib.IntN.{ℤ, pos, negsuc}
-use lib.Dec.{T, eqb→eq, leb→le, ltb→lt, lit≤}
-use lib.Pow.{pow-add, pow_pos}
+use Rattle.std.proofs.Common.{◌≡◌, ℕ, zero, suc, ◌-◌, ◌*◌, ◌/◌, ◌^◌, ◌<◌, ◌≤◌, Bool, true, false, T, ℤ, pos, negsuc, refl, ap, le_trans, mul-le-mul_right, mul_assoc, le_antisymm, lt_of_mul-lt-mul_right, mul-lt-mul_of_pos_right, mul-pos, zero-mul, mul-one, mul_right_comm, mul-div_cancel, arith, lit≤, eqb→eq, ltb→lt, leb→le, pow_pos, pow-add}
+use native.Mathlib.Nat.{eq_of_mul-eq-mul_right}
 use lib.Ieee.{Float, nan, inf, fin, binary64, up, down, fits, le}
 use lib.Ieee.Fits.{up_pos, down_pos, and_l, and_r}
 use lib.Ieee.Digits.{back}

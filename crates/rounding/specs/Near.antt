@@ -1,7 +1,7 @@
 -- What the contracts of the inner functions say of numbers that stand for a fraction or a float. No public entry cites it. Assumes nothing.
-use Rattle.std.specs.Prelude.{◌≡◌, ◌⊎◌, Bool, cond, ℕ, ◌+◌, ◌*◌, ◌/◌, ◌%◌, ◌^◌, ◌≤◌, ◌<◌, Float}
+use Rattle.std.specs.Prelude.{◌≡◌, ℕ, ◌+◌, ◌*◌, ◌/◌, ◌%◌, ◌^◌, ◌<◌, ◌≤◌, Bool, cond, ◌⊎◌, from_bits, Float}
 use Rattle.std.specs.Float.{binary64}
-use Rattle.std.specs.Float.Ieee.{of_bits, units, unlike}
+use Rattle.std.specs.Float.Ieee.{units, unlike}
 use Rattle.std.specs.Float.Ieee.Exact.{HasValue}
 use Rattle.rounding.specs.Root.{root}
 use Rattle.rounding.specs.Fused.{fused}
@@ -12,7 +12,7 @@ Sticky a b J = (a ≡ J * b) ⊎ ((J % 2 ≡ 1) × (a < (J + 1) * b) × (J * b <
 
 -- the float whose bits are b, with the sign set beside them
 abbrev pub signed : Bool → ℕ → Float
-signed s b = of_bits binary64 (b + cond s (2 ^ 63) 0)
+signed s b = from_bits binary64 (b + cond s (2 ^ 63) 0)
 
 -- b is the pattern, with the sign left out, of q * 2 ^ k units
 pub record Pattern (k q b : ℕ) : Type 0 where
@@ -32,12 +32,12 @@ pub record Radical (b w half : ℕ) : Type 0 where
   pub small : w < 2 ^ 54
   pub near : half + 485 ≤ 2045
   pub reads : (q : ℕ) → (q * q ≤ w * 2 ^ 54) × (w * 2 ^ 54 < (q + 1) * (q + 1))
-      → of_bits binary64 ((half + 485) * 2 ^ 52 + (q + 1) / 2) ≡ root (of_bits binary64 b)
+      → from_bits binary64 ((half + 485) * 2 ^ 52 + (q + 1) / 2) ≡ root (from_bits binary64 b)
 
 -- near 1 the pattern of a root is that half way between b and the pattern of 1, rounded down
 pub record Halved (b : ℕ) : Type 0 where
   pub small : b < 2 ^ 62
-  pub reads : of_bits binary64 ((b + 0x3ff0_0000_0000_0000) / 2) ≡ root (of_bits binary64 b)
+  pub reads : from_bits binary64 ((b + 0x3ff0_0000_0000_0000) / 2) ≡ root (from_bits binary64 b)
 
 -- p has the size and the zeros at its end of a product of two numbers of `Taken`
 pub record Multiplied (p : ℕ) : Type 0 where

@@ -1,3 +1,9 @@
-// From a number of 64 digits and an exponent to an f64 and back, rounded once, which root and fused multiply-add stand on. The
-// functions are `pub` only because those stand in crates of their own.
+// Square root and fused multiply-add of f64, each rounded once. `root::root` and `fused::fused` are the entries:
+// the other functions are `pub` only because they stand in modules of their own.
+#![tactic(auto)]
+
+pub mod fused;
 pub mod pack;
+pub mod pair;
+pub mod root;
+pub mod wide;

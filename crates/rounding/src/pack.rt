@@ -1,6 +1,5 @@
 // Rounding and packing: from a number of 64 digits and an exponent to an f64, and back.
-ghost use Rattle.std.specs.Prelude.{◌≡◌, ◌⊎◌, cond, ◌*◌, ◌^◌, ◌≤◌, ◌<◌, eqb};
-ghost use Rattle.std.specs.Int.Bits.{bit_or};
+ghost use Rattle.std.specs.Prelude.{◌≡◌, ◌*◌, ◌^◌, ◌<◌, ◌≤◌, ◌⊎◌, if◌then◌else◌, bit_or, nat_eq};
 ghost use Rattle.std.specs.Float.{binary64};
 ghost use Rattle.std.specs.Float.Ieee.{units, round};
 ghost use Rattle.std.specs.Float.Ieee.Nearest.{closest};
@@ -20,7 +19,7 @@ pub fn shift_jam(a: u64, d: u64) -> u64
 
 // hi, with its lowest bit set where lo is not 0.
 pub fn jam(hi: u64, lo: u64) -> u64
-    ensures { result ≡ cond (eqb lo 0) hi (bit_or hi 1) }
+    ensures { result ≡ (if nat_eq lo 0 then hi else bit_or hi 1) }
 {
     if lo == 0 { hi } else { hi | 1 }
 }
@@ -78,7 +77,7 @@ pub fn round_pack(neg: bool, e: u64, sig: u64) -> f64
 }
 
 // A positive float is m * 2^e / 2^1136, with 2^62 <= m < 2^63.
-#[derive(Drop)]
+#[derive(Clone, Copy)]
 pub struct Parts {
     pub m: u64,
     pub e: u64,

@@ -1,5 +1,7 @@
 // Records from standard input, and a line for each to standard output. The line `end` is the sign that the input was read whole
 // and everything written: a read or a write that fails is said on standard error, and then there is none.
+#![tactic(auto)]
+
 ghost use Rattle.std.specs.Prelude.{◌≡◌, true, ◌≤◌, length};
 ghost use Rattle.text.specs.Sizes.{longest_line};
 ghost use Rattle.reader.specs.Reader.{state, most_bytes, started, listening, after_all};
@@ -68,7 +70,7 @@ fn write_whole(text: &[u8]) -> bool {
 }
 
 // The link after a portion, and whether its lines were written.
-#[derive(Drop)]
+#[derive(Clone, Copy)]
 struct Progress {
     link: Link,
     written: bool,

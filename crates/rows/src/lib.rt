@@ -1,4 +1,6 @@
 // Rows: half-planes a*x + b*y <= c that lie flat in a slice, three neighbouring floats each; normalising them, and the 2 by 2 system.
+#![tactic(auto)]
+
 ghost use Rattle.std.specs.Prelude.{◌≡◌, true, not, ◌+◌, ◌*◌, ◌<◌, T, length, set};
 ghost use Rattle.std.specs.Float.Ieee.{eq, is_nan};
 ghost use Rattle.float.specs.Operators.{◌⊕◌, ◌⊗◌};
@@ -11,35 +13,35 @@ pub const MOST_ROWS: usize = 4096;
 
 // a*x + b*y <= c; for `solve_2x2`, a*x + b*y = c.
 #[repr(C)]
-#[derive(Drop)]
+#[derive(Clone, Copy)]
 pub struct Row {
     pub a: f64,
     pub b: f64,
     pub c: f64,
 }
 
-#[derive(Drop)]
+#[derive(Clone, Copy)]
 pub struct Point {
     pub x: f64,
     pub y: f64,
 }
 
 // What `normalize_lp2d` answers; a refusal by its number.
-#[derive(Drop)]
+#[derive(Clone, Copy)]
 pub enum Normalized {
     Done,
     Refused(u64),
 }
 
 // What `solve_2x2` answers; a refusal by its number.
-#[derive(Drop)]
+#[derive(Clone, Copy)]
 pub enum Crossing {
     At(Point),
     Refused(u64),
 }
 
 // Two squares with their roots: that of the row in hand, and another.
-#[derive(Drop)]
+#[derive(Clone, Copy)]
 pub struct Kept {
     pub square: f64,
     pub norm: f64,
@@ -165,7 +167,7 @@ fn following(rows: &[f64], n: usize, k: usize, square: f64) -> f64
     let mut i = k + 1;
     while i < n {
         let next = square_of(row_at(rows, i));
-        if root::pair::ordinary(next) {
+        if rounding::pair::ordinary(next) {
             if next != square {
                 return next;
             }
@@ -193,7 +195,7 @@ fn kept_for(rows: &[f64], n: usize, k: usize, square: f64, kept: Kept) -> Kept
         };
     }
     let ahead = following(rows, n, k, square);
-    let both = root::pair::root_pair(square, ahead);
+    let both = rounding::pair::root_pair(square, ahead);
     Kept {
         square: square,
         norm: both.a,
@@ -217,12 +219,12 @@ pub fn normalize(rows: &mut [f64], n: usize)
     while k < n {
         let r = row_at(rows, k);
         let square = square_of(r);
-        if root::pair::ordinary(square) {
+        if rounding::pair::ordinary(square) {
             kept = kept_for(rows, n, k, square, kept);
             let u = scaled(r, kept.norm);
             put_row(rows, k, u);
         } else {
-            let norm = root::root(square);
+            let norm = rounding::root::root(square);
             let u = scaled(r, norm);
             put_row(rows, k, u);
         }

@@ -1,4 +1,6 @@
 // Scans of residuals: the first row that fails ends a scan.
+#![tactic(auto)]
+
 ghost use Rattle.std.specs.Prelude.{◌≡◌, cond, ◌*◌, ◌≤◌, length, take};
 ghost use Rattle.readings.specs.Readings.{within};
 ghost use Rattle.rows.specs.Rows.{rows_of};
@@ -7,7 +9,7 @@ ghost use Rattle.scan.specs.Scan.{every, meets, not_above, scanned};
 use rows::{Point, Row};
 
 // Every row passed, or one failed, with the readings left; or too few were left.
-#[derive(Drop)]
+#[derive(Clone, Copy)]
 pub enum Scan {
     Pass(u64),
     Fail(u64),

@@ -18,8 +18,8 @@ use Rattle.once.specs.declared.Normalize.TheVariants.{Off, Source}
 use Rattle.once.specs.declared.Task.{Task}
 use Rattle.once.specs.Once.{prepared, widened, passes, many, once}
 use Rattle.solve.specs.Solve.{Solves, solves, all_solves, count}
-use Rattle.forward.proofs.Count.{from_row, before, after_skip, forward_takes}
-use Rattle.deferred.proofs.Count.{deferred_takes}
+use Rattle.passes.proofs.Count.{from_row, before, after_skip, forward_takes}
+use Rattle.passes.proofs.DeferredCount.{deferred_takes}
 use Rattle.solve.proofs.Lengths.{length-prepared, length-once}
 
 -- ---- the numbers

@@ -1,4 +1,6 @@
 // The solve: the highest y under half-planes, over boxes that grow while the answer sits on their edge.
+#![tactic(auto)]
+
 ghost use Rattle.std.specs.Prelude.{◌≡◌, ◌*◌, ◌≤◌, length};
 ghost use Rattle.rows.specs.Rows.{rows_of, flat_of};
 ghost use Rattle.solve.specs.declared.Outcome.TheVariants.{Answered};
@@ -9,7 +11,7 @@ use once::{Normalize, Round, Task};
 use rows::Point;
 use step::{Found, State};
 
-#[derive(Drop)]
+#[derive(Clone, Copy)]
 pub enum Answer {
     Point(f64, f64),
     Level(f64),
@@ -18,7 +20,7 @@ pub enum Answer {
 }
 
 // An answer with the active rows and the count; refusal 3 with its count, which is the allowance; or refusal 1 or 2.
-#[derive(Drop)]
+#[derive(Clone, Copy)]
 pub enum Outcome {
     Answered(Answer, Active, u64),
     Stopped(u64),
@@ -26,7 +28,7 @@ pub enum Outcome {
 }
 
 // What the source's own entry answers; a refusal by its number.
-#[derive(Drop)]
+#[derive(Clone, Copy)]
 pub enum Solution {
     Answered(Answer),
     Refused(u64),

@@ -1,4 +1,6 @@
 // One incremental step: a row is pinned, and the best point on it is found.
+#![tactic(auto)]
+
 ghost use Rattle.std.specs.Prelude.{◌≡◌, ◌+◌, ◌*◌, ◌≤◌, ◌<◌, length, take};
 ghost use Rattle.readings.specs.Readings.{within, paid};
 ghost use Rattle.rows.specs.Rows.{rows_of};
@@ -9,7 +11,7 @@ use line::{Narrowed, Reduced, Span};
 use rows::{Point, Row};
 
 // What a solve is posed over: half the width of the box, the tolerance of residuals, and that of reductions.
-#[derive(Drop)]
+#[derive(Clone, Copy)]
 pub struct Frame {
     pub bound: f64,
     pub epsilon: f64,
@@ -17,20 +19,20 @@ pub struct Frame {
 }
 
 // A point with the rows that it rests on.
-#[derive(Drop)]
+#[derive(Clone, Copy)]
 pub struct State {
     pub at: Point,
     pub active: Active,
 }
 
-#[derive(Drop)]
+#[derive(Clone, Copy)]
 pub enum Found {
     Failed,
     Done(State),
 }
 
 // A state and the readings left; no state and the readings left; or too few were left.
-#[derive(Drop)]
+#[derive(Clone, Copy)]
 pub enum Stepped {
     Done(State, u64),
     Failed(u64),
@@ -38,7 +40,7 @@ pub enum Stepped {
 }
 
 // An x on the pinned line with the rows that it rests on.
-#[derive(Drop)]
+#[derive(Clone, Copy)]
 pub struct Chosen {
     pub x: f64,
     pub active: Active,

@@ -1,4 +1,6 @@
 // The lines that rowrun prints. A function here puts its text into `out` from `at` on, and answers where the text ends.
+#![tactic(auto)]
+
 ghost use Rattle.std.specs.Prelude.{◌≡◌, ◌+◌, ◌*◌, ◌/◌, ◌^◌, ◌≤◌, ◌<◌, length, drop};
 ghost use Rattle.text.specs.Sizes.{longest_decimal, longest_number, longest_float, longest_answer, longest_refusal, longest_outcome, longest_line, longest_end};
 ghost use Rattle.text.specs.Text.{written, decimal, hex};

@@ -1,15 +1,17 @@
 // Lines of test vectors: words parted by a blank each, a float as the 16 hex digits of its bits, and what is expected behind the word `=`.
 // A position past the end of the text is one at which nothing stands.
+#![tactic(auto)]
+
 ghost use Rattle.std.specs.Prelude.{◌≡◌, ◌≤◌, ◌<◌, length, take};
 
-#[derive(Drop)]
+#[derive(Clone, Copy)]
 enum Bits {
     Of(u64),
     Nothing,
 }
 
 // Floats that were read, and the position of the word behind the `=` behind them.
-#[derive(Drop)]
+#[derive(Clone, Copy)]
 pub struct Floats {
     pub count: usize,
     pub at: usize,
@@ -57,7 +59,7 @@ fn bits_at(text: &[u8], at: usize) -> Bits {
 }
 
 // A decimal number, of up to 18 digits; another word, as the `-` of no row, is nothing.
-#[derive(Drop)]
+#[derive(Clone, Copy)]
 pub enum Number {
     Of(u64),
     Nothing,

@@ -1,9 +1,5 @@
 -- `rounding::pack::drop_eleven` meets its contract: each arm is what `nearest` gives as the remainder compares with the half.
-use borrow.Author.Rules.{rules}
-use mathlib.Core.Path.{◌≡◌}
-use Prim.Native.Nat.{ℕ, ◌+◌, ◌*◌, ◌/◌, ◌%◌, ◌≤◌, ◌<◌}
-use native.Mathlib.Numerals.{add-one}
-use native.Mathlib.Omega.{arith}
+use Rattle.std.proofs.Common.{◌≡◌, ℕ, ◌+◌, ◌*◌, ◌/◌, ◌%◌, ◌<◌, ◌≤◌, add-one, arith, rules}
 use lib.Bits.{bit_and, and_mask}
 use lib.Ieee.Nearest.{closest}
 use Rattle.rounding.proofs.Sticky.{compare_lt, compare_eq, compare_gt}

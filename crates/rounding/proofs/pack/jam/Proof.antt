@@ -1,5 +1,5 @@
 -- `rounding::pack::jam` meets its contract.
-use borrow.Author.Tests.{eq-eqb, ne_eqb}
+use Rattle.std.proofs.Common.{eq-eqb, ne_eqb}
 use Rattle.rounding.proofs.pack.jam.Statement.{statement}
 use Rattle.rounding.proofs.pack.jam.Tie as tie
 

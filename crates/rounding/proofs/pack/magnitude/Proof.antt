@@ -1,11 +1,5 @@
 -- `rounding::pack::magnitude` meets its contract.
-use borrow.Author.Rules.{rules}
-use mathlib.Core.Path.{◌≡◌}
-use mathlib.Core.Logic.{◌⊎◌}
-use Prim.Native.Nat.{ℕ, ◌+◌, ◌*◌, ◌%◌, ◌^◌, ◌≤◌}
-use native.Mathlib.Omega.{arith}
-use native.Mathlib.Nat.{mod-eq_of_lt}
-use lib.Dec.{lit<}
+use Rattle.std.proofs.Common.{◌≡◌, ℕ, ◌+◌, ◌*◌, ◌%◌, ◌^◌, ◌≤◌, ◌⊎◌, mod-eq_of_lt, arith, lit<, rules}
 use Rattle.rounding.specs.Near.{Pattern}
 use Rattle.rounding.proofs.Packed.{packed, packed_over}
 use Rattle.rounding.proofs.pack.magnitude.Statement.{statement}

@@ -1,9 +1,5 @@
 -- `rounding::pack::pack` meets its contract.
-use borrow.Author.Rules.{rules}
-use mathlib.Core.Path.{◌≡◌}
-use mathlib.Core.Bool.{true, false}
-use Prim.Native.Nat.{ℕ}
-use native.Mathlib.Nat.{add-zero}
+use Rattle.std.proofs.Common.{◌≡◌, ℕ, true, false, add-zero, rules}
 use lib.Ieee.{binary64, units, of_bits}
 use Rattle.rounding.specs.Near.{Pattern}
 use Rattle.rounding.proofs.Packed.{no_nan}

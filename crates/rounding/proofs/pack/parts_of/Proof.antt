@@ -1,7 +1,5 @@
 -- `rounding::pack::parts_of` meets its contract.
-use borrow.Author.Rules.{rules}
-use Prim.Native.Nat.{◌≤◌}
-use native.Mathlib.Omega.{arith}
+use Rattle.std.proofs.Common.{◌≤◌, arith, rules}
 use Rattle.rounding.proofs.Decode.{lead, lead_range, taken_masked, normal_masked}
 use Rattle.rounding.proofs.pack.parts_of.Statement.{statement}
 use Rattle.rounding.proofs.pack.parts_of.Tie as tie

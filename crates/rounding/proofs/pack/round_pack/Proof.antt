@@ -1,7 +1,5 @@
 -- `rounding::pack::round_pack` meets its contract.
-use borrow.Author.Rules.{rules}
-use mathlib.Core.Path.{refl, ◌∙◌}
-use mathlib.Core.Logic.{inl, inr}
+use Rattle.std.proofs.Common.{refl, ◌∙◌, inl, inr, rules}
 use Rattle.rounding.proofs.Rounding.{kept-most, kept-least, round_high, round_low}
 use Rattle.rounding.proofs.pack.round_pack.Statement.{statement}
 use Rattle.rounding.proofs.pack.round_pack.Tie as tie

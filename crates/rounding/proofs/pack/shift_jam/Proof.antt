@@ -1,5 +1,5 @@
 -- `rounding::pack::shift_jam` meets its contract.
-use borrow.Author.Rules.{rules}
+use Rattle.std.proofs.Common.{rules}
 use Rattle.rounding.proofs.Shifts.{shift_yes, shift_no, far_none, far_some}
 use Rattle.rounding.proofs.pack.shift_jam.Statement.{statement}
 use Rattle.rounding.proofs.pack.shift_jam.Tie as tie

@@ -1,4 +1,0 @@
-pub mod Count
-pub mod Named
-pub mod Scan
-pub mod Rounds

@@ -1,0 +1,9 @@
+pub mod Count
+pub mod Named
+pub mod Binds
+pub mod Attempts
+pub mod Turns
+pub mod DeferredCount
+pub mod DeferredNamed
+pub mod Scan
+pub mod Rounds
