@@ -1,0 +1,32 @@
+-- `float::max` meets its contract: of two that are equal by their bits, and of others by `<`, after a test for a NaN by `x != x`. Assumes nothing.
+use mathlib.Core.Path.{sym, subst, ◌∙◌}
+use mathlib.Core.Logic.{⊎_elim}
+use borrow.Author.Rules.{rules}
+use lib.Dec.{T}
+use Rattle.float.specs.Operators.{if◌then◌else◌}
+use Rattle.float.proofs.Nans.{nan_test}
+use Rattle.float.proofs.Joined.{greatest_of_equal, greatest_of_unequal}
+use Rattle.float.proofs.max.Goals.{else-x, then-x}
+use Rattle.float.proofs.max.Goals as goal
+
+pub returns-then-x-y : goal.returns-then-x-y
+returns-then-x-y c =
+    let a = c.args in
+    let good = c.well_formed in
+    c.float_of.ensures
+    ∙ rw (c.bits_of.ensures, c.bits_of-then-x-y.ensures)
+    (greatest_of_equal a.x a.y (subst T (sym good.0.1) tt) (subst T (sym good.1.0.1) tt) c.if-x-y.true)
+
+pub returns-then-x-y-2 : goal.returns-then-x-y-2
+unfolding if◌then◌else◌
+returns-then-x-y-2 c =
+    let a = c.args in
+    rw (← greatest_of_unequal a.x a.y c.if-x-y.false)
+    (elim c.if-x.branch [ then-x w ↦ simp (nan_test, w.if-x.true) | else-x w ↦ simp (nan_test, w.if-x.false, ← w.value-is, c.if-x-y-2.true) ])
+
+pub returns-else-x-y-2 : goal.returns-else-x-y-2
+unfolding if◌then◌else◌
+returns-else-x-y-2 c =
+    let a = c.args in
+    rw (← greatest_of_unequal a.x a.y c.if-x-y.false)
+    (elim c.if-x.branch [ then-x w ↦ cc | else-x w ↦ simp (nan_test, w.if-x.false, ← w.value-is, c.if-x-y-2.false) ])

@@ -1,0 +1,8 @@
+-- `record::kind_of` meets its contract.
+use borrow.Author.Rules.{rules}
+use Rattle.record.specs.Record.{kind}
+use Rattle.record.proofs.kind_of.Goals as goal
+
+pub returns : goal.returns
+unfolding kind
+returns c = c.le16.ensures.0

@@ -1,0 +1,11 @@
+-- `rounding::root::root_digits` meets its contract.
+use Rattle.std.proofs.Common.{◌-◌, refl, inl, inr, arith, rules}
+use mathlib.Core.Logic.{⊎_map}
+use Rattle.rounding.proofs.Digits.{Inv, first, again, some, out}
+use Rattle.rounding.proofs.root.root_digits.Given as goal
+
+abbrev pub invariant-loop-i : goal.invariant-loop-i
+invariant-loop-i l = Inv l.w l.ix l.t l.h l.g l.i
+
+abbrev pub decreases-loop-i : goal.decreases-loop-i
+decreases-loop-i l = 53 - l.i

@@ -1,0 +1,19 @@
+-- `scan::every` meets its contract.
+use mathlib.Core.Path.{refl}
+use mathlib.Core.Bool.{cond}
+use Prim.Native.Nat.{◌-◌}
+use lib.ListN.{take}
+use borrow.Author.Rules.{rules}
+use Rattle.readings.specs.Readings.{within}
+use Rattle.rows.specs.Rows.{rows_of}
+use Rattle.scan.specs.Scan.{every, meets, not_above}
+use Rattle.scan.proofs.Turns.{Turn, ends, stops, goes_on, fails}
+use Rattle.scan.proofs.every.Given as goal
+
+abbrev pub invariant-loop-i : goal.invariant-loop-i
+invariant-loop-i l =
+    let test = cond l.strict (meets l.eps l.p) (not_above l.eps l.p) in
+    Turn test l.rows l.upto l.i l.rest (within l.left (every test (take l.upto (rows_of l.rows))))
+
+abbrev pub decreases-loop-i : goal.decreases-loop-i
+decreases-loop-i l = l.upto - l.i

@@ -1,0 +1,17 @@
+-- `text::put` meets its contract. The loop's invariant: the first i bytes of the text are copied.
+use mathlib.Core.Path.{◌≡◌, ◌∙◌}
+use Prim.Native.Nat.{◌-◌, ◌≤◌}
+use native.Mathlib.Omega.{arith}
+use native.Mathlib.Numerals.{add-one}
+use borrow.Author.Rules.{rules}
+use lib.ListN.{length, length-set}
+use lib.Seq.{paste, paste-zero, paste-suc}
+use Rattle.text.proofs.Written.{copied_all}
+use Rattle.text.proofs.put.Goals as goal
+
+pub loop-i-preserved : goal.loop-i-preserved
+loop-i-preserved c =
+    let l = c.loop-i in
+    let a = c.args in
+    let copied = paste-suc a.out.now a.at a.text.now l.i 0 (omega arith) (omega arith) in
+    (search rules, simp length-set (omega arith), rw (l.invariant.2, add-one l.i) copied)

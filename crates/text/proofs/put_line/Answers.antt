@@ -1,0 +1,21 @@
+-- `text::put_line` meets its contract.
+use mathlib.Core.List.{[], ◌∷◌}
+use native.Mathlib.Omega.{arith}
+use borrow.Author.Rules.{rules}
+use Rattle.text.specs.Sizes.{longest_line}
+use Rattle.text.specs.Text.{decimal}
+use Rattle.text.specs.Lines.{outcome_words, outcome_line}
+use Rattle.text.proofs.Written.{then_two_put}
+use Rattle.text.proofs.Decimal.{decimal-length}
+use Rattle.text.proofs.Lengths.{outcome-length}
+use Rattle.text.proofs.put_line.Goals as goal
+
+pub put_decimal-begun-requires : goal.put_decimal-begun-requires
+unfolding longest_line
+put_decimal-begun-requires c = omega (arith, decimal-length c.args.number)
+
+pub put-requires : goal.put-requires
+unfolding longest_line
+put-requires c =
+    let a = c.args in
+    omega (arith, decimal-length a.number, outcome-length a.got)
