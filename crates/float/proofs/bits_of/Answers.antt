@@ -1,6 +1,5 @@
 -- `float::bits_of` meets its contract: `to_bits` is asked only of what is no NaN. Assumes nothing.
 use mathlib.Core.Path.{sym}
-use borrow.Author.Rules.{rules}
 use Rattle.float.proofs.Nans.{nan_test, tested_nan, bits_of_nan}
 use Rattle.float.proofs.bits_of.Goals as goal
 

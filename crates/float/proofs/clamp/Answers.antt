@@ -1,5 +1,4 @@
 -- `float::clamp` meets its contract, whether or not the lower bound raised the value. Assumes nothing.
-use mathlib.Core.Logic.{⊎_elim}
 use Rattle.float.specs.Operators.{if◌then◌else◌}
 use Rattle.float.specs.Float.{clamp}
 use Rattle.float.proofs.clamp.Goals.{else-x-low, then-x-low}

@@ -1,7 +1,6 @@
 -- `float::is_finite` meets its contract: the absolute value is below infinity exactly for a finite number. Assumes nothing.
 use mathlib.Core.Path.{◌≡◌, refl}
 use mathlib.Core.Bool.{false}
-use borrow.Author.Rules.{rules}
 use lib.Ieee.{Float, nan, inf, fin, lt}
 use Rattle.float.specs.Float.{abs, finite}
 use Rattle.float.proofs.is_finite.Goals as goal

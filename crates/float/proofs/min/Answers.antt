@@ -1,7 +1,5 @@
 -- `float::min` meets its contract: of two that are equal by their bits, and of others by `<`, after a test for a NaN by `x != x`. Assumes nothing.
 use mathlib.Core.Path.{sym, subst, ◌∙◌}
-use mathlib.Core.Logic.{⊎_elim}
-use borrow.Author.Rules.{rules}
 use lib.Dec.{T}
 use Rattle.float.specs.Operators.{if◌then◌else◌}
 use Rattle.float.proofs.Nans.{nan_test}

@@ -1,6 +1,5 @@
 -- `float::settled` meets its contract: what differs from itself is the NaN that `nan` returns. Assumes nothing.
 use mathlib.Core.Path.{sym, ◌∙◌}
-use borrow.Author.Rules.{rules}
 use Rattle.float.proofs.Nans.{tested_nan}
 use Rattle.float.proofs.settled.Goals as goal
 

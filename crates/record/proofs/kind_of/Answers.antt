@@ -5,4 +5,4 @@ use Rattle.record.proofs.kind_of.Goals as goal
 
 pub returns : goal.returns
 unfolding kind
-returns c = c.le16.ensures.0
+returns c = c.le16.ensures.value

@@ -8,4 +8,4 @@ pub returns : goal.returns
 returns c =
     let a = c.args in
     let bytes = a.bytes.now in
-    rw (c.le32.ensures.0, c.le32-2.ensures.0, ← field_behind 8 a.at bytes) (omega (arith, field_split 4 4 0 (behind bytes a.at)))
+    rw (c.le32.ensures.value, c.le32-2.ensures.value, ← field_behind 8 a.at bytes) (omega (arith, field_split 4 4 0 (behind bytes a.at)))

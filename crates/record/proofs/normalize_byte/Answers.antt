@@ -6,4 +6,4 @@ use Rattle.record.proofs.normalize_byte.Goals as goal
 
 pub returns : goal.returns
 unfolding normalize_byte
-returns c = rw (field-one _ c.args.head.now) c.wide.ensures.0
+returns c = rw (field-one _ c.args.head.now) c.wide.ensures.value

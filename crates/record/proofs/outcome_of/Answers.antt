@@ -22,3 +22,19 @@ pub slice_bounds-solve-end-2 : goal.slice_bounds-solve-end-2
 unfolding most_floats field_bytes
 slice_bounds-solve-end-2 c =
     let none = solved-length _ _ _ (sym c.refusal_of-number.ensures ∙ c.if-number-ne0.false) in sym (length-take-le _ _ (omega arith))
+
+pub returns-then-number-ne0 : goal.returns-then-number-ne0
+unfolding answered if◌then◌else◌
+returns-then-number-ne0 c = rw (← c.refusal_of-number.ensures, ne_eqb _ _ c.if-number-ne0.true) (refl, refl)
+
+pub returns : goal.returns
+unfolding answered allowance float_count if◌then◌else◌ field_bytes
+returns c =
+    rw (
+      ← c.refusal_of-number.ensures,
+      eq-eqb _ _ c.if-number-ne0.false,
+      ← c.task_of.ensures,
+      ← c.le64.ensures,
+      ← c.body_length.ensures.value,
+    )
+    (c.solve.ensures.answer, rw (← c.solve.ensures.lent))

@@ -1,6 +1,5 @@
 -- `rows::following` meets its contract, which says nothing of what it gives: the rows that it reads are there, and it ends. Assumes nothing.
 use Prim.Native.Nat.{◌-◌, ◌≤◌}
-use borrow.Author.Rules.{rules}
 use Rattle.rows.proofs.following.Given as goal
 
 abbrev pub invariant-loop-i : goal.invariant-loop-i

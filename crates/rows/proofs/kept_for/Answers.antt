@@ -1,5 +1,4 @@
 -- `rows::kept_for` meets its contract. Assumes nothing.
-use borrow.Author.Rules.{rules}
 use Rattle.rows.proofs.Squares.{equals_itself}
 use Rattle.rows.proofs.kept_for.Goals as goal
 

@@ -1,5 +1,4 @@
 -- `rows::no_boundary` meets its contract. Assumes nothing.
-use borrow.Author.Rules.{rules}
 use Rattle.rows.specs.Constants.{eps_zero}
 use Rattle.rows.specs.Rows.{no_boundary}
 use Rattle.rows.proofs.no_boundary.Goals as goal

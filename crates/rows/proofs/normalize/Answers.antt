@@ -1,12 +1,10 @@
 -- `rows::normalize` meets its contract. The loop's invariant: the first k rows are normalised, the others as they were, and the two kept norms are the
 -- roots of their squares. Assumes nothing.
 use mathlib.Core.Path.{◌≡◌, refl, sym, ap, ◌∙◌}
-use mathlib.Core.Logic.{⊎_elim}
 use mathlib.Core.List.{List}
-use Prim.Native.Nat.{ℕ, ◌*◌, ◌-◌, ◌≤◌, ◌<◌}
+use Prim.Native.Nat.{ℕ, ◌<◌}
 use native.Mathlib.Omega.{arith}
 use native.Mathlib.Numerals.{add-one}
-use borrow.Author.Rules.{rules}
 use lib.ListN.{length, set}
 use lib.Ieee.{Float, of_bits}
 use Rattle.rounding.specs.Root.{root}
@@ -16,7 +14,7 @@ use Rattle.rows.specs.Rows.{rows_of, flat_of, normalized_row, normalized}
 use Rattle.rows.specs.Kept.{Keeps}
 use Rattle.rows.proofs.Lengths.{length-rows_of}
 use Rattle.rows.proofs.Squares.{kept-root}
-use Rattle.rows.proofs.Written.{flat_rows, done, done_none, done_next, done_all}
+use Rattle.rows.proofs.Written.{flat_rows, done_none, done_next, done_all}
 use Rattle.rows.proofs.normalize.Goals.{else-ordinary, then-ordinary}
 use Rattle.rows.proofs.normalize.Goals as goal
 
@@ -35,16 +33,19 @@ loop-k-preserved c =
     let l = c.loop-k in
     let floats = c.args.rows.now in
     let inside : l.k < length (rows_of floats) = omega (arith, length-rows_of floats) in
-    let turn : Turn l.rows l.k c.row_at-r.result c.if-ordinary.rows c.if1.auto =
-    elim c.if-ordinary.branch [ then-ordinary w ↦ let kept = w.kept_for-kept.ensures in rw (w.rows-is, w.kept-is) (
-      w.put_row.ensures.1,
-      w.put_row.ensures.0 ∙ rw (w.scaled-u.ensures, kept-root _ _ _ _ kept.0 kept.1.0, square.ensures),
-      kept.1,
-    ) | else-ordinary w ↦ rw (w.rows-is, w.kept-is) (
-      w.put_row-else-ordinary.ensures.1,
-      w.put_row-else-ordinary.ensures.0 ∙ rw (w.scaled-u-else-ordinary.ensures, w.root-norm.ensures, square.ensures),
-      l.invariant.3,
-    ) ] in (
+    let turn : Turn l.rows l.k c.row_at-r.result c.if-ordinary.rows c.if-ordinary.kept =
+    elim c.if-ordinary.branch [
+      | then-ordinary w ↦ let kept = w.kept_for-kept.ensures in rw (w.rows-is, w.kept-is) (
+        w.put_row.ensures.as_long,
+        w.put_row.ensures.stored ∙ rw (w.scaled-u.ensures, kept-root _ _ _ _ kept.0 kept.1.0, square.ensures),
+        kept.1,
+      )
+      | else-ordinary w ↦ rw (w.rows-is, w.kept-is) (
+        w.put_row-else-ordinary.ensures.as_long,
+        w.put_row-else-ordinary.ensures.stored ∙ rw (w.scaled-u-else-ordinary.ensures, w.root-norm.ensures, square.ensures),
+        l.invariant.3,
+      )
+    ] in (
       omega arith,
       turn.0 ∙ l.invariant.1,
       turn.1 ∙ rw (c.row_at-r.ensures, l.invariant.2, add-one l.k) (done_next normalized_row l.k (rows_of floats) inside),

@@ -1,22 +1,11 @@
 -- `rows::normalize` meets its contract. The loop's invariant: the first k rows are normalised, the others as they were, and the two kept norms are the
 -- roots of their squares. Assumes nothing.
-use mathlib.Core.Path.{◌≡◌, refl, sym, ap, ◌∙◌}
-use mathlib.Core.Logic.{⊎_elim}
-use mathlib.Core.List.{List}
-use Prim.Native.Nat.{ℕ, ◌*◌, ◌-◌, ◌≤◌, ◌<◌}
-use native.Mathlib.Omega.{arith}
-use native.Mathlib.Numerals.{add-one}
-use borrow.Author.Rules.{rules}
-use lib.ListN.{length, set}
-use lib.Ieee.{Float, of_bits}
-use Rattle.rounding.specs.Root.{root}
-use Rattle.rows.specs.declared.Row.{Row}
-use Rattle.rows.specs.declared.Kept.{Kept}
-use Rattle.rows.specs.Rows.{rows_of, flat_of, normalized_row, normalized}
+use mathlib.Core.Path.{◌≡◌}
+use Prim.Native.Nat.{◌*◌, ◌-◌, ◌≤◌}
+use lib.ListN.{length}
+use Rattle.rows.specs.Rows.{rows_of, normalized_row}
 use Rattle.rows.specs.Kept.{Keeps}
-use Rattle.rows.proofs.Lengths.{length-rows_of}
-use Rattle.rows.proofs.Squares.{kept-root}
-use Rattle.rows.proofs.Written.{flat_rows, done, done_none, done_next, done_all}
+use Rattle.rows.proofs.Written.{done}
 use Rattle.rows.proofs.normalize.Given as goal
 
 abbrev pub invariant-loop-k : goal.invariant-loop-k

@@ -1,5 +1,4 @@
 -- `rows::refusal` meets its contract. Assumes nothing.
-use borrow.Author.Rules.{rules}
 use borrow.Author.Tests.{eq-eqb, ne_eqb, lt-ltb, le-ltb}
 use Rattle.float.specs.Operators.{if◌then◌else◌}
 use Rattle.rows.specs.Rows.{refusal}

@@ -1,7 +1,6 @@
 -- `rows::row_or_zeros` meets its contract. Assumes nothing.
 use mathlib.Core.Path.{sym}
 use native.Mathlib.Omega.{arith}
-use borrow.Author.Rules.{rules}
 use Rattle.float.specs.Float.{zero}
 use Rattle.rows.specs.Rows.{zeros}
 use Rattle.rows.proofs.Flat.{no_row}

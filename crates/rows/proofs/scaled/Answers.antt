@@ -1,5 +1,4 @@
 -- `rows::scaled` meets its contract. Assumes nothing.
-use borrow.Author.Rules.{rules}
 use Rattle.float.specs.Operators.{if◌then◌else◌}
 use Rattle.float.specs.Float.{zero, one}
 use Rattle.rows.specs.Rows.{zeros, normalized_by}

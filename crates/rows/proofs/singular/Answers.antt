@@ -1,5 +1,4 @@
 -- `rows::singular` meets its contract. Assumes nothing.
-use borrow.Author.Rules.{rules}
 use Rattle.rows.specs.Constants.{ccw_errbound_a}
 use Rattle.rows.specs.Rows.{determinant, singular}
 use Rattle.rows.proofs.singular.Goals as goal

@@ -1,5 +1,4 @@
 -- `rows::solve_2x2` meets its contract. Assumes nothing.
-use borrow.Author.Rules.{rules}
 use Rattle.float.specs.Operators.{if◌then◌else◌}
 use Rattle.float.specs.Float.{one}
 use Rattle.rows.specs.Rows.{determinant, crossing}

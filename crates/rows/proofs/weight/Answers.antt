@@ -1,5 +1,4 @@
 -- `rows::weight` meets its contract.
-use borrow.Author.Rules.{rules}
 use Rattle.rows.specs.Rows.{weight}
 use Rattle.rows.proofs.weight.Goals as goal
 

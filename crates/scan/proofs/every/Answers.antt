@@ -1,13 +1,6 @@
 -- `scan::every` meets its contract.
-use mathlib.Core.Path.{refl}
-use mathlib.Core.Bool.{cond}
-use Prim.Native.Nat.{◌-◌}
-use lib.ListN.{take}
 use borrow.Author.Rules.{rules}
-use Rattle.readings.specs.Readings.{within}
-use Rattle.rows.specs.Rows.{rows_of}
-use Rattle.scan.specs.Scan.{every, meets, not_above}
-use Rattle.scan.proofs.Turns.{Turn, ends, stops, goes_on, fails}
+use Rattle.scan.proofs.Turns.{ends, stops, goes_on, fails}
 use Rattle.scan.proofs.every.Goals as goal
 
 pub returns-then-rest-eq0 : goal.returns-then-rest-eq0

@@ -1,13 +1,11 @@
 -- `scan::every` meets its contract.
-use mathlib.Core.Path.{refl}
 use mathlib.Core.Bool.{cond}
 use Prim.Native.Nat.{◌-◌}
 use lib.ListN.{take}
-use borrow.Author.Rules.{rules}
 use Rattle.readings.specs.Readings.{within}
 use Rattle.rows.specs.Rows.{rows_of}
 use Rattle.scan.specs.Scan.{every, meets, not_above}
-use Rattle.scan.proofs.Turns.{Turn, ends, stops, goes_on, fails}
+use Rattle.scan.proofs.Turns.{Turn}
 use Rattle.scan.proofs.every.Given as goal
 
 abbrev pub invariant-loop-i : goal.invariant-loop-i

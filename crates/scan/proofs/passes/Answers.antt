@@ -1,5 +1,4 @@
 -- `scan::passes` meets its contract.
-use borrow.Author.Rules.{rules}
 use Rattle.scan.specs.Scan.{meets, not_above}
 use Rattle.scan.proofs.passes.Goals as goal
 

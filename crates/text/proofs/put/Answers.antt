@@ -15,3 +15,10 @@ loop-i-preserved c =
     let a = c.args in
     let copied = paste-suc a.out.now a.at a.text.now l.i 0 (omega arith) (omega arith) in
     (search rules, simp length-set (omega arith), rw (l.invariant.2, add-one l.i) copied)
+
+pub returns-clause-out : goal.returns-clause-out
+returns-clause-out c =
+    let l = c.loop-i in
+    let a = c.args in
+    let all : l.i ≡ length a.text.now = omega arith in
+    l.invariant.2 ∙ rw all (copied_all a.out.now a.at a.text.now)

@@ -27,3 +27,17 @@ loop-i-preserved c =
       rw (l.invariant.3, add-one l.i, c.glyph.ensures, ← digit) copied,
       next_rest a.n l.rest l.i (omega arith) l.invariant.4,
     )
+
+pub returns-clause-end : goal.returns-clause-end
+returns-clause-end c =
+    let l = c.loop-i in
+    let a = c.args in
+    let all : l.i ≡ length (hex a.n) = omega (arith, hex-length a.n) in
+    omega (arith, hex-length a.n)
+
+pub returns-clause-out : goal.returns-clause-out
+returns-clause-out c =
+    let l = c.loop-i in
+    let a = c.args in
+    let all : l.i ≡ length (hex a.n) = omega (arith, hex-length a.n) in
+    l.invariant.3 ∙ rw all (copied_all a.out.now a.at (hex a.n))

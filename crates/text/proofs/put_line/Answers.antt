@@ -19,3 +19,12 @@ unfolding longest_line
 put-requires c =
     let a = c.args in
     omega (arith, decimal-length a.number, outcome-length a.got)
+
+pub returns : goal.returns
+unfolding outcome_line longest_line
+returns c =
+    let a = c.args in
+    let number = decimal a.number in
+    let outcome = outcome_words a.got in
+    let put = then_two_put a.out.now a.at number outcome (10 ∷ []) (omega (arith, decimal-length a.number, outcome-length a.got)) in
+    put c.put_decimal-begun.ensures c.put_outcome-words.ensures c.put.ensures

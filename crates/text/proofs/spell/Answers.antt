@@ -28,3 +28,10 @@ loop-rest-preserved c =
     let last : l.rest - 10 * next.result ≡ l.rest % 10 = omega arith in
     let spelled = one_more_spelled a.n l.rest l.at l.digits (omega arith) l.invariant.4 (omega arith) in
     (omega arith, simp length-set (omega arith), omega arith, rw back (omega arith), rw (back, last, next.ensures) spelled)
+
+pub returns-clause-digits : goal.returns-clause-digits
+unfolding longest_decimal
+returns-clause-digits c =
+    let l = c.loop-rest in
+    let a = c.args in
+    all_spelled a.n l.rest l.at l.digits (omega arith) l.invariant.4 (omega arith)

@@ -1,5 +1,5 @@
 -- `rounding::fused::sum_aligned` meets its contract.
-use Rattle.std.proofs.Common.{◌∙◌, le_of_lt, arith, rules}
+use Rattle.std.proofs.Common.{◌∙◌}
 use Rattle.rounding.proofs.Sums.{aligned_like, aligned_less, aligned_more, aligned_same}
 use Rattle.rounding.proofs.fused.sum_aligned.Goals as goal
 

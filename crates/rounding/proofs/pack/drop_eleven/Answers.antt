@@ -1,5 +1,5 @@
 -- `rounding::pack::drop_eleven` meets its contract: each arm is what `nearest` gives as the remainder compares with the half.
-use Rattle.std.proofs.Common.{◌≡◌, ℕ, ◌+◌, ◌*◌, ◌/◌, ◌%◌, ◌<◌, ◌≤◌, add-one, arith, rules}
+use Rattle.std.proofs.Common.{◌≡◌, ℕ, ◌+◌, ◌*◌, ◌/◌, ◌%◌, ◌<◌, ◌≤◌, add-one, arith}
 use lib.Bits.{bit_and, and_mask}
 use lib.Ieee.Nearest.{closest}
 use Rattle.rounding.proofs.Sticky.{compare_lt, compare_eq, compare_gt}

@@ -1,5 +1,5 @@
 -- `rounding::pack::magnitude` meets its contract.
-use Rattle.std.proofs.Common.{◌≡◌, ℕ, ◌+◌, ◌*◌, ◌%◌, ◌^◌, ◌≤◌, ◌⊎◌, mod-eq_of_lt, arith, lit<, rules}
+use Rattle.std.proofs.Common.{◌≡◌, ℕ, ◌+◌, ◌*◌, ◌%◌, ◌^◌, ◌≤◌, ◌⊎◌, mod-eq_of_lt, arith, lit<}
 use Rattle.rounding.specs.Near.{Pattern}
 use Rattle.rounding.proofs.Packed.{packed, packed_over}
 use Rattle.rounding.proofs.pack.magnitude.Goals as goal

@@ -1,5 +1,5 @@
 -- `rounding::pack::pack` meets its contract.
-use Rattle.std.proofs.Common.{◌≡◌, ℕ, true, false, add-zero, rules}
+use Rattle.std.proofs.Common.{◌≡◌, ℕ, true, false, add-zero}
 use lib.Ieee.{binary64, units, of_bits}
 use Rattle.rounding.specs.Near.{Pattern}
 use Rattle.rounding.proofs.Packed.{no_nan}

@@ -1,16 +1,13 @@
 -- `rounding::pack::parts_of` meets its contract.
-use Rattle.std.proofs.Common.{◌≤◌, arith, rules}
-use Rattle.rounding.proofs.Decode.{lead, lead_range, taken_masked, normal_masked}
+use Rattle.std.proofs.Common.{arith}
+use Rattle.rounding.proofs.Decode.{lead_range, taken_masked, normal_masked}
 use Rattle.rounding.proofs.pack.parts_of.Goals as goal
 
-zeros : (c : tie.Then1) → (12 ≤ lead c.before.args.b) × (lead c.before.args.b ≤ 63)
-zeros c = lead_range c.before.args.b c.before.requires.0 c.if1.true
-
 pub overflow_sub-z : goal.overflow_sub-z
-overflow_sub-z c = omega (arith, zeros c)
+overflow_sub-z c = omega (arith, lead_range c.args.b c.requires.0 c.if-field-eq0.true)
 
 pub overflow_sub-result : goal.overflow_sub-result
-overflow_sub-result c = omega (arith, zeros c)
+overflow_sub-result c = omega (arith, lead_range c.args.b c.requires.0 c.if-field-eq0.true)
 
 pub returns-then-field-eq0 : goal.returns-then-field-eq0
 returns-then-field-eq0 c = taken_masked c.args.b c.requires.0 c.if-field-eq0.true

@@ -1,6 +1,6 @@
 -- `rounding::pack::round_pack` meets its contract.
-use Rattle.std.proofs.Common.{refl, ◌∙◌, inl, inr, rules}
-use Rattle.rounding.proofs.Rounding.{kept-most, kept-least, round_high, round_low}
+use Rattle.std.proofs.Common.{◌∙◌}
+use Rattle.rounding.proofs.Rounding.{round_high, round_low}
 use Rattle.rounding.proofs.pack.round_pack.Goals as goal
 
 pub returns-then-e-lt1251 : goal.returns-then-e-lt1251

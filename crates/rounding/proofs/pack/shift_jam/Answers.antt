@@ -1,6 +1,5 @@
 -- `rounding::pack::shift_jam` meets its contract.
-use Rattle.std.proofs.Common.{rules}
-use Rattle.rounding.proofs.Shifts.{shift_yes, shift_no, far_none, far_some}
+use Rattle.rounding.proofs.Shifts.{shift_no, far_some}
 use Rattle.rounding.proofs.pack.shift_jam.Goals as goal
 
 pub returns-else-q-d : goal.returns-else-q-d

@@ -1,6 +1,4 @@
 -- `rounding::pair::ordinary` meets its contract.
-use Rattle.std.proofs.Common.{rules}
-use mathlib.Core.Bool.{false≢true}
 use Rattle.rounding.proofs.RootCases.{above_real, bits_positive}
 use Rattle.rounding.proofs.pair.ordinary.Goals as goal
 

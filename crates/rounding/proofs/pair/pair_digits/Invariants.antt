@@ -1,7 +1,6 @@
 -- `rounding::pair::pair_digits` meets its contract: the invariant of `root_digits`, twice.
-use Rattle.std.proofs.Common.{◌-◌, refl, inl, inr, arith, rules}
-use mathlib.Core.Logic.{⊎_map}
-use Rattle.rounding.proofs.Digits.{Inv, first, again, some, out}
+use Rattle.std.proofs.Common.{◌-◌}
+use Rattle.rounding.proofs.Digits.{Inv}
 use Rattle.rounding.proofs.pair.pair_digits.Given as goal
 
 abbrev pub invariant-loop-i : goal.invariant-loop-i

@@ -1,5 +1,4 @@
 -- `rounding::root::near_one` meets its contract.
-use mathlib.Core.Bool.{false≢true}
 use Rattle.std.proofs.Common.{leb-true}
 use Rattle.rounding.proofs.NearOne.{near-one}
 use Rattle.rounding.proofs.root.near_one.Goals as goal

@@ -1,6 +1,5 @@
 -- `rounding::root::packed_root` meets its contract: the pattern loses no digits, and is at most the infinity's.
-use Rattle.std.proofs.Common.{ℕ, ap, arith, rules}
-use lib.Ieee.{binary64, of_bits}
+use Rattle.std.proofs.Common.{arith}
 use Rattle.rounding.proofs.Packed.{small_real}
 use Rattle.rounding.proofs.root.packed_root.Goals as goal
 

@@ -1,6 +1,4 @@
 -- `rounding::root::radicand_of` meets its contract.
-use Rattle.std.proofs.Common.{arith, rules}
-use lib.Bits.{and_mask}
 use Rattle.rounding.proofs.Roots.{radical}
 use Rattle.rounding.proofs.root.radicand_of.Goals as goal
 

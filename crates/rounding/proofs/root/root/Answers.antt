@@ -1,7 +1,7 @@
 -- `rounding::root::root` meets its contract.
-use Rattle.std.proofs.Common.{◌∙◌, arith, rules}
+use Rattle.std.proofs.Common.{◌∙◌, arith}
 use Rattle.rounding.proofs.Packed.{small_real}
-use Rattle.rounding.proofs.RootCases.{root_of_bits, at_zero, no_root, above_real, bits_positive, at_infinity}
+use Rattle.rounding.proofs.RootCases.{root_of_bits, at_zero, no_root, bits_positive, at_infinity}
 use Rattle.rounding.proofs.root.root.Goals as goal
 
 pub float_from_bits-result : goal.float_from_bits-result

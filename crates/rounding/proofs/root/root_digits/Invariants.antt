@@ -1,7 +1,6 @@
 -- `rounding::root::root_digits` meets its contract.
-use Rattle.std.proofs.Common.{◌-◌, refl, inl, inr, arith, rules}
-use mathlib.Core.Logic.{⊎_map}
-use Rattle.rounding.proofs.Digits.{Inv, first, again, some, out}
+use Rattle.std.proofs.Common.{◌-◌}
+use Rattle.rounding.proofs.Digits.{Inv}
 use Rattle.rounding.proofs.root.root_digits.Given as goal
 
 abbrev pub invariant-loop-i : goal.invariant-loop-i

@@ -1,6 +1,5 @@
 -- `rounding::wide::finish` meets its contract.
-use Rattle.std.proofs.Common.{◌∙◌, arith, rules}
-use lib.Count.{leading_le}
+use Rattle.std.proofs.Common.{◌∙◌}
 use Rattle.rounding.proofs.Words.{low_rounds, high_rounds}
 use Rattle.rounding.proofs.wide.finish.Goals as goal
 

@@ -1,5 +1,5 @@
 -- `rounding::wide::shift_jam_wide` meets its contract.
-use Rattle.std.proofs.Common.{◌≡◌, ℕ, ◌+◌, ◌-◌, ◌*◌, ◌^◌, ◌<◌, ◌≤◌, sym, inl, mul_comm, zero-add, mul-one, pow_pos, rules}
+use Rattle.std.proofs.Common.{◌≡◌, ℕ, ◌+◌, ◌-◌, ◌*◌, ◌^◌, ◌<◌, ◌≤◌, mul_comm, zero-add, pow_pos}
 use Rattle.rounding.specs.Near.{Sticky}
 use Rattle.rounding.proofs.Shifts.{pow_back}
 use Rattle.rounding.proofs.Words.{jammed, sticky_word, sticky_trans, sticky_shift}

@@ -1,0 +1,16 @@
+-- `project::interval_of` meets its contract.
+use Prim.Native.Nat.{◌-◌}
+use borrow.Author.Rules.{rules}
+use lib.ListN.{take}
+use lib.Ieee.{neg}
+use Rattle.readings.specs.Readings.{within}
+use Rattle.rows.specs.Rows.{rows_of}
+use Rattle.project.specs.Project.{interval, everywhere}
+use Rattle.project.proofs.Cuts.{Turn, ends-crossed, ends, stops, keeps, empties}
+use Rattle.project.proofs.interval_of.Given as goal
+
+abbrev pub invariant-loop-i : goal.invariant-loop-i
+invariant-loop-i l = Turn l.eps l.y l.rows l.upto l.i l.rest l.v (within l.left (interval l.eps l.y (take l.upto (rows_of l.rows)) everywhere))
+
+abbrev pub decreases-loop-i : goal.decreases-loop-i
+decreases-loop-i l = l.upto - l.i

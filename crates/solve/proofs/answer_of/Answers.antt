@@ -1,0 +1,26 @@
+-- `solve::answer_of` meets its contract.
+use borrow.Author.Rules.{rules}
+use Rattle.float.specs.Operators.{if◌then◌else◌}
+use Rattle.float.proofs.Nans.{nan_test}
+use Rattle.solve.specs.Solve.{answer}
+use Rattle.solve.proofs.answer_of.Goals as goal
+
+pub returns-then-p-2 : goal.returns-then-p-2
+unfolding answer if◌then◌else◌
+returns-then-p-2 c = simp (c.in-Done.is, nan_test, c.if-p.true, c.if-p-2.true)
+
+pub returns-then-p : goal.returns-then-p
+unfolding answer if◌then◌else◌
+returns-then-p c = simp (c.in-Done.is, nan_test, c.if-p.true, c.if-p-2.false)
+
+pub returns-then-p-3 : goal.returns-then-p-3
+unfolding answer if◌then◌else◌
+returns-then-p-3 c = simp (c.in-Done.is, nan_test, c.if-p.false, c.if-p-3.true)
+
+pub returns-in-Failed : goal.returns-in-Failed
+unfolding answer
+returns-in-Failed c = rw c.in-Failed.is
+
+pub returns-else-p-3 : goal.returns-else-p-3
+unfolding answer if◌then◌else◌
+returns-else-p-3 c = simp (c.in-Done.is, nan_test, c.if-p.false, c.if-p-3.false)

@@ -1,0 +1,19 @@
+-- `text::put_float` meets its contract.
+use mathlib.Core.List.{[], ◌∷◌}
+use native.Mathlib.Omega.{arith}
+use borrow.Author.Rules.{rules}
+use lib.Ieee.{binary64, to_bits}
+use Rattle.text.specs.Sizes.{longest_float}
+use Rattle.text.specs.Text.{hex}
+use Rattle.text.specs.Lines.{float_word}
+use Rattle.text.proofs.Written.{then_put}
+use Rattle.text.proofs.Hex.{hex-length}
+use Rattle.text.proofs.put_float.Goals as goal
+
+pub returns : goal.returns
+unfolding float_word longest_float
+returns c =
+    let a = c.args in
+    let bits = to_bits binary64 a.x in
+    let put = rw c.bits_of.ensures at c.put_hex.ensures in
+    then_put a.out.now a.at (32 ∷ []) (hex bits) (omega (arith, hex-length bits)) c.put-digits.ensures put
