@@ -1,7 +1,6 @@
 -- `text::put_line` meets its contract.
 use mathlib.Core.List.{[], ◌∷◌}
 use native.Mathlib.Omega.{arith}
-use borrow.Author.Rules.{rules}
 use Rattle.text.specs.Sizes.{longest_line}
 use Rattle.text.specs.Text.{decimal}
 use Rattle.text.specs.Lines.{outcome_words, outcome_line}
@@ -12,7 +11,11 @@ use Rattle.text.proofs.put_line.Goals as goal
 
 pub put_decimal-begun-requires : goal.put_decimal-begun-requires
 unfolding longest_line
-put_decimal-begun-requires c = omega (arith, decimal-length c.args.number)
+put_decimal-begun-requires c = omega arith
+
+pub put_outcome-words-requires : goal.put_outcome-words-requires
+unfolding longest_line
+put_outcome-words-requires c = omega (arith, decimal-length c.args.number)
 
 pub put-requires : goal.put-requires
 unfolding longest_line
@@ -26,5 +29,9 @@ returns c =
     let a = c.args in
     let number = decimal a.number in
     let outcome = outcome_words a.got in
+    let first = c.put_decimal-begun.ensures in
+    let second = c.put_outcome-words.ensures in
+    let last = c.put.ensures in
     let put = then_two_put a.out.now a.at number outcome (10 ∷ []) (omega (arith, decimal-length a.number, outcome-length a.got)) in
-    put c.put_decimal-begun.ensures c.put_outcome-words.ensures c.put.ensures
+    let all = put (first.end, first.out) (second.end, second.out) (last.end, last.out) in
+    record { end = all.0; out = all.1 }

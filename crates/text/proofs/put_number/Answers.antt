@@ -1,7 +1,6 @@
 -- `text::put_number` meets its contract.
 use mathlib.Core.List.{[], ◌∷◌}
 use native.Mathlib.Omega.{arith}
-use borrow.Author.Rules.{rules}
 use Rattle.text.specs.Sizes.{longest_number}
 use Rattle.text.specs.Text.{decimal}
 use Rattle.text.specs.Lines.{number_word}
@@ -9,8 +8,20 @@ use Rattle.text.proofs.Written.{then_put}
 use Rattle.text.proofs.Decimal.{decimal-length}
 use Rattle.text.proofs.put_number.Goals as goal
 
+pub put-digits-requires : goal.put-digits-requires
+unfolding longest_number
+put-digits-requires c = omega arith
+
+pub put_decimal-requires : goal.put_decimal-requires
+unfolding longest_number
+put_decimal-requires c = omega arith
+
 pub returns : goal.returns
 unfolding number_word longest_number
 returns c =
     let a = c.args in
-    then_put a.out.now a.at (32 ∷ []) (decimal a.n) (omega (arith, decimal-length a.n)) c.put-digits.ensures c.put_decimal.ensures
+    let blank = c.put-digits.ensures in
+    let digits = c.put_decimal.ensures in
+    let put =
+    then_put a.out.now a.at (32 ∷ []) (decimal a.n) (omega (arith, decimal-length a.n)) (blank.end, blank.out) (digits.end, digits.out) in
+    record { end = put.0; out = put.1 }
