@@ -3,7 +3,7 @@ use mathlib.Core.List.{[], ◌∷◌}
 use native.Mathlib.Omega.{arith}
 use Rattle.text.specs.Sizes.{longest_end}
 use Rattle.text.specs.Lines.{number_word, end_line}
-use Rattle.text.proofs.Written.{then_two_put}
+use Rattle.text.proofs.Written.{then_two_ensured}
 use Rattle.text.proofs.Lengths.{number-length}
 use Rattle.text.proofs.put_end.Goals as goal
 
@@ -23,10 +23,5 @@ pub returns : goal.returns
 unfolding end_line longest_end
 returns c =
     let a = c.args in
-    let end = 101 ∷ 110 ∷ 100 ∷ [] in
-    let first = c.put-word.ensures in
-    let second = c.put_number-number.ensures in
-    let last = c.put.ensures in
-    let put = then_two_put a.out.now a.at end (number_word a.lines) (10 ∷ []) (omega (arith, number-length a.lines)) in
-    let all = put (first.end, first.out) (second.end, second.out) (last.end, last.out) in
-    record { end = all.0; out = all.1 }
+    let put = then_two_ensured a.out.now a.at (101 ∷ 110 ∷ 100 ∷ []) (number_word a.lines) (10 ∷ []) (omega (arith, number-length a.lines)) in
+    put c.put-word.ensures c.put_number-number.ensures c.put.ensures

@@ -5,7 +5,7 @@ use lib.Ieee.{binary64, to_bits}
 use Rattle.text.specs.Sizes.{longest_float}
 use Rattle.text.specs.Text.{hex}
 use Rattle.text.specs.Lines.{float_word}
-use Rattle.text.proofs.Written.{then_put}
+use Rattle.text.proofs.Written.{then_ensured}
 use Rattle.text.proofs.Hex.{hex-length}
 use Rattle.text.proofs.put_float.Goals as goal
 
@@ -22,8 +22,5 @@ unfolding float_word longest_float
 returns c =
     let a = c.args in
     let bits = to_bits binary64 a.x in
-    let blank = c.put-digits.ensures in
-    let digits = rw c.bits_of.ensures at c.put_hex.ensures in
-    let put =
-    then_put a.out.now a.at (32 ∷ []) (hex bits) (omega (arith, hex-length bits)) (blank.end, blank.out) (digits.end, digits.out) in
-    record { end = put.0; out = put.1 }
+    let put = rw c.bits_of.ensures at c.put_hex.ensures in
+    then_ensured a.out.now a.at (32 ∷ []) (hex bits) (omega (arith, hex-length bits)) c.put-digits.ensures put

@@ -4,7 +4,7 @@ use native.Mathlib.Omega.{arith}
 use Rattle.text.specs.Sizes.{longest_line}
 use Rattle.text.specs.Text.{decimal}
 use Rattle.text.specs.Lines.{outcome_words, outcome_line}
-use Rattle.text.proofs.Written.{then_two_put}
+use Rattle.text.proofs.Written.{then_two_ensured}
 use Rattle.text.proofs.Decimal.{decimal-length}
 use Rattle.text.proofs.Lengths.{outcome-length}
 use Rattle.text.proofs.put_line.Goals as goal
@@ -29,9 +29,5 @@ returns c =
     let a = c.args in
     let number = decimal a.number in
     let outcome = outcome_words a.got in
-    let first = c.put_decimal-begun.ensures in
-    let second = c.put_outcome-words.ensures in
-    let last = c.put.ensures in
-    let put = then_two_put a.out.now a.at number outcome (10 ∷ []) (omega (arith, decimal-length a.number, outcome-length a.got)) in
-    let all = put (first.end, first.out) (second.end, second.out) (last.end, last.out) in
-    record { end = all.0; out = all.1 }
+    let put = then_two_ensured a.out.now a.at number outcome (10 ∷ []) (omega (arith, decimal-length a.number, outcome-length a.got)) in
+    put c.put_decimal-begun.ensures c.put_outcome-words.ensures c.put.ensures

@@ -4,7 +4,7 @@ use native.Mathlib.Omega.{arith}
 use Rattle.text.specs.Sizes.{longest_number}
 use Rattle.text.specs.Text.{decimal}
 use Rattle.text.specs.Lines.{number_word}
-use Rattle.text.proofs.Written.{then_put}
+use Rattle.text.proofs.Written.{then_ensured}
 use Rattle.text.proofs.Decimal.{decimal-length}
 use Rattle.text.proofs.put_number.Goals as goal
 
@@ -20,8 +20,4 @@ pub returns : goal.returns
 unfolding number_word longest_number
 returns c =
     let a = c.args in
-    let blank = c.put-digits.ensures in
-    let digits = c.put_decimal.ensures in
-    let put =
-    then_put a.out.now a.at (32 ∷ []) (decimal a.n) (omega (arith, decimal-length a.n)) (blank.end, blank.out) (digits.end, digits.out) in
-    record { end = put.0; out = put.1 }
+    then_ensured a.out.now a.at (32 ∷ []) (decimal a.n) (omega (arith, decimal-length a.n)) c.put-digits.ensures c.put_decimal.ensures

@@ -5,7 +5,7 @@ use native.Mathlib.Omega.{arith}
 use lib.ListN.{length, length-append}
 use Rattle.text.specs.Sizes.{longest_refusal, longest_outcome}
 use Rattle.text.specs.Lines.{number_word, slot_word, answer_words, outcome_words}
-use Rattle.text.proofs.Written.{then_put, then_two_put}
+use Rattle.text.proofs.Written.{then_ensured, then_two_ensured}
 use Rattle.text.proofs.Lengths.{number-length, slot-length, answer-length}
 use Rattle.text.proofs.put_outcome.Goals as goal
 
@@ -56,11 +56,6 @@ returns-in-Answered c =
     let count = number_word g.n in
     let room : a.at + length words + length first + length second + length count ≤ length a.out.now =
     omega (arith, answer-length g.a, slot-length g.act.first, slot-length g.act.second, number-length g.n) in
-    let rows = then_two_put a.out.now a.at words first second (omega arith) in
-    let w = c.put_answer-words.ensures in
-    let f = c.put_slot-first.ensures in
-    let s = c.put_slot-second.ensures in
-    let n = c.put_number.ensures in
-    let before = rows (w.end, w.out) (f.end, f.out) (s.end, s.out) in
-    let all = then_put a.out.now a.at (words ++ first ++ second) count (simp length-append (omega arith)) before (n.end, n.out) in
-    rw g.is (record { end = all.0; out = all.1 })
+    let rows = then_two_ensured a.out.now a.at words first second (omega arith) in
+    let before = rows c.put_answer-words.ensures c.put_slot-first.ensures c.put_slot-second.ensures in
+    rw g.is (then_ensured a.out.now a.at (words ++ first ++ second) count (simp length-append (omega arith)) before c.put_number.ensures)

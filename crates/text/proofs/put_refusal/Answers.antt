@@ -2,7 +2,7 @@
 use native.Mathlib.Omega.{arith}
 use Rattle.text.specs.Sizes.{longest_refusal}
 use Rattle.text.specs.Lines.{refused_word, number_word, refusal_words}
-use Rattle.text.proofs.Written.{then_put}
+use Rattle.text.proofs.Written.{then_ensured}
 use Rattle.text.proofs.Lengths.{number-length}
 use Rattle.text.proofs.put_refusal.Goals as goal
 
@@ -18,8 +18,4 @@ pub returns : goal.returns
 unfolding refusal_words refused_word longest_refusal
 returns c =
     let a = c.args in
-    let word = c.put-word.ensures in
-    let number = c.put_number.ensures in
-    let put =
-    then_put a.out.now a.at refused_word (number_word a.k) (omega (arith, number-length a.k)) (word.end, word.out) (number.end, number.out) in
-    record { end = put.0; out = put.1 }
+    then_ensured a.out.now a.at refused_word (number_word a.k) (omega (arith, number-length a.k)) c.put-word.ensures c.put_number.ensures
