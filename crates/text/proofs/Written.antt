@@ -41,6 +41,22 @@ pub then_two_put : (out : List ℕ) (at : ℕ) (s t u : List ℕ) {mid more left
 then_two_put out at s t u fits first second third =
     then_put out at (s ++ t) u (simp length-append (omega arith)) (then_put out at s t (omega arith) first second) third
 
+-- the same, as the two clauses of such a function's contract have it
+abbrev pub Ensured : List ℕ → ℕ → List ℕ → List ℕ → ℕ → Type 0
+Ensured bytes at text left after = record { end : after ≡ at + length text; out : left ≡ written bytes at text }
+
+pub then_ensured : (bytes : List ℕ) (at : ℕ) (s t : List ℕ) {mid left : List ℕ} {m after : ℕ} → at + length s + length t ≤ length bytes
+    → Ensured bytes at s mid m → Ensured mid m t left after → Ensured bytes at (s ++ t) left after
+then_ensured bytes at s t fits first second =
+    let put = then_put bytes at s t fits (first.end, first.out) (second.end, second.out) in record { end = put.0; out = put.1 }
+
+pub then_two_ensured : (bytes : List ℕ) (at : ℕ) (s t u : List ℕ) {mid more left : List ℕ} {m k after : ℕ}
+    → at + length s + length t + length u ≤ length bytes
+    → Ensured bytes at s mid m → Ensured mid m t more k → Ensured more k u left after → Ensured bytes at (s ++ t ++ u) left after
+then_two_ensured bytes at s t u fits first second third =
+    let put = then_two_put bytes at s t u fits (first.end, first.out) (second.end, second.out) (third.end, third.out) in
+    record { end = put.0; out = put.1 }
+
 -- a text at the start of lent bytes is no longer than they are
 pub put_fits : (out text : List ℕ) → length text ≤ length (written out 0 text)
 unfolding written

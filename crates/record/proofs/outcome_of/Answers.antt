@@ -25,7 +25,7 @@ slice_bounds-solve-end-2 c =
 
 pub returns-then-number-ne0 : goal.returns-then-number-ne0
 unfolding answered if◌then◌else◌
-returns-then-number-ne0 c = rw (← c.refusal_of-number.ensures, ne_eqb _ _ c.if-number-ne0.true) (refl, refl)
+returns-then-number-ne0 c = rw (← c.refusal_of-number.ensures, ne_eqb _ _ c.if-number-ne0.true) (record { answer = refl; floats = refl })
 
 pub returns : goal.returns
 unfolding answered allowance float_count if◌then◌else◌ field_bytes
@@ -37,4 +37,4 @@ returns c =
       ← c.le64.ensures,
       ← c.body_length.ensures.value,
     )
-    (c.solve.ensures.answer, rw (← c.solve.ensures.lent))
+    (record { answer = c.solve.ensures.answer; floats = rw (← c.solve.ensures.lent) })

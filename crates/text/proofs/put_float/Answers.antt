@@ -1,14 +1,21 @@
 -- `text::put_float` meets its contract.
 use mathlib.Core.List.{[], ◌∷◌}
 use native.Mathlib.Omega.{arith}
-use borrow.Author.Rules.{rules}
 use lib.Ieee.{binary64, to_bits}
 use Rattle.text.specs.Sizes.{longest_float}
 use Rattle.text.specs.Text.{hex}
 use Rattle.text.specs.Lines.{float_word}
-use Rattle.text.proofs.Written.{then_put}
+use Rattle.text.proofs.Written.{then_ensured}
 use Rattle.text.proofs.Hex.{hex-length}
 use Rattle.text.proofs.put_float.Goals as goal
+
+pub put-digits-requires : goal.put-digits-requires
+unfolding longest_float
+put-digits-requires c = omega arith
+
+pub put_hex-requires : goal.put_hex-requires
+unfolding longest_float
+put_hex-requires c = omega arith
 
 pub returns : goal.returns
 unfolding float_word longest_float
@@ -16,4 +23,4 @@ returns c =
     let a = c.args in
     let bits = to_bits binary64 a.x in
     let put = rw c.bits_of.ensures at c.put_hex.ensures in
-    then_put a.out.now a.at (32 ∷ []) (hex bits) (omega (arith, hex-length bits)) c.put-digits.ensures put
+    then_ensured a.out.now a.at (32 ∷ []) (hex bits) (omega (arith, hex-length bits)) c.put-digits.ensures put

@@ -1,18 +1,21 @@
 -- `text::put_line` meets its contract.
 use mathlib.Core.List.{[], ◌∷◌}
 use native.Mathlib.Omega.{arith}
-use borrow.Author.Rules.{rules}
 use Rattle.text.specs.Sizes.{longest_line}
 use Rattle.text.specs.Text.{decimal}
 use Rattle.text.specs.Lines.{outcome_words, outcome_line}
-use Rattle.text.proofs.Written.{then_two_put}
+use Rattle.text.proofs.Written.{then_two_ensured}
 use Rattle.text.proofs.Decimal.{decimal-length}
 use Rattle.text.proofs.Lengths.{outcome-length}
 use Rattle.text.proofs.put_line.Goals as goal
 
 pub put_decimal-begun-requires : goal.put_decimal-begun-requires
 unfolding longest_line
-put_decimal-begun-requires c = omega (arith, decimal-length c.args.number)
+put_decimal-begun-requires c = omega arith
+
+pub put_outcome-words-requires : goal.put_outcome-words-requires
+unfolding longest_line
+put_outcome-words-requires c = omega (arith, decimal-length c.args.number)
 
 pub put-requires : goal.put-requires
 unfolding longest_line
@@ -26,5 +29,5 @@ returns c =
     let a = c.args in
     let number = decimal a.number in
     let outcome = outcome_words a.got in
-    let put = then_two_put a.out.now a.at number outcome (10 ∷ []) (omega (arith, decimal-length a.number, outcome-length a.got)) in
+    let put = then_two_ensured a.out.now a.at number outcome (10 ∷ []) (omega (arith, decimal-length a.number, outcome-length a.got)) in
     put c.put_decimal-begun.ensures c.put_outcome-words.ensures c.put.ensures

@@ -1,16 +1,23 @@
 -- `text::put_number` meets its contract.
 use mathlib.Core.List.{[], ◌∷◌}
 use native.Mathlib.Omega.{arith}
-use borrow.Author.Rules.{rules}
 use Rattle.text.specs.Sizes.{longest_number}
 use Rattle.text.specs.Text.{decimal}
 use Rattle.text.specs.Lines.{number_word}
-use Rattle.text.proofs.Written.{then_put}
+use Rattle.text.proofs.Written.{then_ensured}
 use Rattle.text.proofs.Decimal.{decimal-length}
 use Rattle.text.proofs.put_number.Goals as goal
+
+pub put-digits-requires : goal.put-digits-requires
+unfolding longest_number
+put-digits-requires c = omega arith
+
+pub put_decimal-requires : goal.put_decimal-requires
+unfolding longest_number
+put_decimal-requires c = omega arith
 
 pub returns : goal.returns
 unfolding number_word longest_number
 returns c =
     let a = c.args in
-    then_put a.out.now a.at (32 ∷ []) (decimal a.n) (omega (arith, decimal-length a.n)) c.put-digits.ensures c.put_decimal.ensures
+    then_ensured a.out.now a.at (32 ∷ []) (decimal a.n) (omega (arith, decimal-length a.n)) c.put-digits.ensures c.put_decimal.ensures

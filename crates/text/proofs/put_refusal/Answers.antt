@@ -1,14 +1,21 @@
 -- `text::put_refusal` meets its contract.
 use native.Mathlib.Omega.{arith}
-use borrow.Author.Rules.{rules}
 use Rattle.text.specs.Sizes.{longest_refusal}
 use Rattle.text.specs.Lines.{refused_word, number_word, refusal_words}
-use Rattle.text.proofs.Written.{then_put}
+use Rattle.text.proofs.Written.{then_ensured}
 use Rattle.text.proofs.Lengths.{number-length}
 use Rattle.text.proofs.put_refusal.Goals as goal
+
+pub put-word-requires : goal.put-word-requires
+unfolding longest_refusal
+put-word-requires c = omega arith
+
+pub put_number-requires : goal.put_number-requires
+unfolding longest_refusal
+put_number-requires c = omega arith
 
 pub returns : goal.returns
 unfolding refusal_words refused_word longest_refusal
 returns c =
     let a = c.args in
-    then_put a.out.now a.at refused_word (number_word a.k) (omega (arith, number-length a.k)) c.put-word.ensures c.put_number.ensures
+    then_ensured a.out.now a.at refused_word (number_word a.k) (omega (arith, number-length a.k)) c.put-word.ensures c.put_number.ensures

@@ -1,8 +1,12 @@
 -- `text::put_slot` meets its contract.
-use borrow.Author.Rules.{rules}
+use native.Mathlib.Omega.{arith}
 use Rattle.text.specs.Sizes.{longest_number}
 use Rattle.text.specs.Lines.{slot_word}
 use Rattle.text.proofs.put_slot.Goals as goal
+
+pub put-requires : goal.put-requires
+unfolding longest_number
+put-requires c = omega arith
 
 pub returns-in-NoRow : goal.returns-in-NoRow
 unfolding slot_word
