@@ -1,7 +1,6 @@
 -- A span without what a term cuts off is the span that the term narrows, also where the span's ends and slots are carried apart.
 use mathlib.Core.Path.{◌≡◌, refl, sym, ap, ◌∙◌}
 use mathlib.Core.Bool.{Bool, true, false}
-use mathlib.Core.Logic.{◌⊎◌, ⊎_elim}
 use Prim.Native.Nat.{ℕ}
 use lib.Ieee.{Float, neg}
 use Rattle.float.specs.Operators.{if◌then◌else◌, ◌⊗◌, ◌⊘◌, ◌≺◌, ◌≻◌}
@@ -54,16 +53,17 @@ module _ (cancel : Bool) (ε : Float) (k : ℕ) (t : Term) (v : Span) {cut : Off
     written u e h l f s = narrowed e ∙ u ∙ rw (← h, ← l, ← f, ← s)
 
     -- the ways in which a loop goes on: each has written what was cut off, and nothing else
-    pub goes_on : {A B C : Type 0} → A ⊎ (B ⊎ C)
-        → (A → (cut ≡ Nothing) × (w.high ≡ v.high) × (w.low ≡ v.low) × (w.active.first ≡ v.active.first) × (w.active.second ≡ v.active.second))
-        → (B → (x : Float) × (cut ≡ Above x) × (w.high ≡ x) × (w.low ≡ v.low) × (w.active.first ≡ Holds k) × (w.active.second ≡ v.active.second))
-        → (C → (x : Float) × (cut ≡ Below x) × (w.high ≡ v.high) × (w.low ≡ x) × (w.active.first ≡ v.active.first) × (w.active.second ≡ Holds k))
+    pub goes_on : cut ≡ Nothing → w.high ≡ v.high → w.low ≡ v.low → w.active.first ≡ v.active.first → w.active.second ≡ v.active.second
         → narrow cancel ε k t v ≡ Kept w
-    unfolding without set_first set_second
-    goes_on way nothing above below =
-        ⊎_elim
-        (λ a. let o = nothing a in written refl o.0 o.1 o.2 o.3 o.4)
-        (⊎_elim
-        (λ b. let o = above b in written refl o.1 o.2 o.3 o.4 o.5)
-        (λ c. let o = below c in written refl o.1 o.2 o.3 o.4 o.5))
-        way
+    unfolding without
+    goes_on = written refl
+
+    pub goes_on_above : {x : Float} → cut ≡ Above x → w.high ≡ x → w.low ≡ v.low → w.active.first ≡ Holds k → w.active.second ≡ v.active.second
+        → narrow cancel ε k t v ≡ Kept w
+    unfolding without set_first
+    goes_on_above = written refl
+
+    pub goes_on_below : {x : Float} → cut ≡ Below x → w.high ≡ v.high → w.low ≡ x → w.active.first ≡ v.active.first → w.active.second ≡ Holds k
+        → narrow cancel ε k t v ≡ Kept w
+    unfolding without set_second
+    goes_on_below = written refl

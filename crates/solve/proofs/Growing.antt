@@ -4,7 +4,7 @@ use mathlib.Core.Path.{◌≡◌, refl, ap}
 use mathlib.Core.Logic.{◌⊎◌, inl, inr}
 use mathlib.Core.Bool.{Bool, true, false}
 use mathlib.Core.List.{List}
-use Prim.Native.Nat.{ℕ, zero, suc, ◌≤◌}
+use Prim.Native.Nat.{ℕ, zero, suc, ◌≤◌, ◌-◌}
 use native.Mathlib.Omega.{arith}
 use lib.Ieee.{Float}
 use Rattle.float.specs.Operators.{if◌then◌else◌, ◌⊗◌}
@@ -84,7 +84,7 @@ module _ (T : Task) (I : List Row → Type 0) (keeps : (rows : List Row) (bound 
   within_keeps : (left : ℕ) (rows : List Row) (os : Solves) → I rows → Each (λ o. I o.rows.value) os → I (rows_within left rows os)
   unfolding rows_within
   within_keeps left rows (last o) i each = either I _ i each
-  within_keeps left rows (o before os) i each = either I _ i (either I _ each.0 (within_keeps _ _ os each.0 each.1))
+  within_keeps left rows (o before os) i each = either I _ i (either I _ each.0 (within_keeps (left - taken_by o) o.rows.value os each.0 each.1))
 
   pub allowed_keeps : (A : ℕ) (rows : List Row) → I rows → I (allowed T A rows).rows
   unfolding allowed finished answered all_solves

@@ -2,7 +2,6 @@
 use Rattle.float.specs.Float.{one}
 use Rattle.rows.specs.Constants.{eps_zero, eps_normalize, ccw_errbound_a}
 use Rattle.line.specs.Line.{coefficient_is_zero}
-use borrow.Author.Rules.{rules}
 use Rattle.line.proofs.coefficient_is_zero.Goals as goal
 
 pub returns-then-cancel : goal.returns-then-cancel

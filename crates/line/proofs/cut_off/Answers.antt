@@ -1,9 +1,7 @@
 -- `line::cut_off` meets its contract: the end that the sign of the coefficient selects is the one that the definition compares with.
-use mathlib.Core.Logic.{⊎_elim}
 use Rattle.float.specs.Operators.{if◌then◌else◌}
 use Rattle.float.specs.Float.{zero}
 use Rattle.line.specs.Line.{cut_off}
-use borrow.Author.Rules.{rules}
 use Rattle.line.proofs.cut_off.Goals.{else-up, then-up}
 use Rattle.line.proofs.cut_off.Goals as goal
 

@@ -6,7 +6,6 @@ use lib.ListN.{length}
 use Rattle.float.specs.Operators.{if◌then◌else◌}
 use Rattle.rows.proofs.Refusals.{taken}
 use Rattle.line.specs.Line.{lp1d}
-use borrow.Author.Rules.{rules}
 use Rattle.line.proofs.lp_1d.Goals as goal
 
 pub returns-then-number-ne0 : goal.returns-then-number-ne0
@@ -24,5 +23,5 @@ returns c =
       eq-eqb _ _ c.if-number-ne0.false,
       c.settled-high.ensures,
       c.settled-low.ensures,
-      ← BAD:span.Span-of.ensures,
+      ← c.span_of-s.ensures,
     )

@@ -1,16 +1,13 @@
 -- `line::lp_1d_core` meets its contract: what is left to do from row k on, with the readings left there, is the whole.
-use mathlib.Core.Path.{◌≡◌, refl, sym, ap, ◌∙◌}
+use mathlib.Core.Path.{◌≡◌}
 use mathlib.Core.Bool.{true}
 use mathlib.Core.List.{map}
 use Prim.Native.Nat.{◌-◌, ◌≤◌}
-use native.Mathlib.Omega.{arith}
 use lib.ListN.{take, drop}
 use Rattle.readings.specs.Readings.{within}
 use Rattle.rows.specs.Rows.{rows_of}
-use Rattle.line.specs.Line.{lp1d_core, on_line, reduced}
-use Rattle.line.proofs.Select.{span, cuts_all, goes_on}
-use Rattle.line.proofs.Reduction.{whole_line_lem, rows_end, row_stops, row_keeps, row_empties}
-use borrow.Author.Rules.{rules}
+use Rattle.line.specs.Line.{lp1d_core, on_line}
+use Rattle.line.proofs.Select.{span}
 use Rattle.line.proofs.lp_1d_core.Given as goal
 
 abbrev pub invariant-loop-k : goal.invariant-loop-k

@@ -2,7 +2,6 @@
 use Rattle.float.specs.Operators.{if◌then◌else◌}
 use Rattle.rows.specs.Constants.{eps_rounding, half}
 use Rattle.line.specs.Line.{meeting}
-use borrow.Author.Rules.{rules}
 use Rattle.line.proofs.meeting.Goals as goal
 
 pub returns-then-low-high-2 : goal.returns-then-low-high-2

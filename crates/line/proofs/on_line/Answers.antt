@@ -1,6 +1,5 @@
 -- `line::on_line` meets its contract.
 use Rattle.line.specs.Line.{on_line, on_x, on_y}
-use borrow.Author.Rules.{rules}
 use Rattle.line.proofs.on_line.Goals as goal
 
 pub returns-then-steep : goal.returns-then-steep

@@ -1,7 +1,6 @@
 -- `line::void` meets its contract.
 -- src/lib.rt:99:9
 use Rattle.line.specs.Line.{void}
-use borrow.Author.Rules.{rules}
 use Rattle.line.proofs.void.Goals as goal
 
 -- src/lib.rt:96:1

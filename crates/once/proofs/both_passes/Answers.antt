@@ -1,6 +1,5 @@
 -- `once::both_passes` meets its contract.
 use mathlib.Core.Path.{refl, sym, ◌∙◌}
-use borrow.Author.Rules.{rules}
 use Rattle.rows.specs.Rows.{rows_of}
 use Rattle.step.specs.Step.{stepped}
 use Rattle.step.proofs.Answers.{tells}

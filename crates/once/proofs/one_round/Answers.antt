@@ -1,5 +1,4 @@
 -- `once::one_round` meets its contract.
-use borrow.Author.Rules.{rules}
 use Rattle.float.specs.Operators.{if◌then◌else◌}
 use Rattle.step.proofs.Answers.{tells}
 use Rattle.once.specs.Once.{rounded}

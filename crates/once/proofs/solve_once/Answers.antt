@@ -1,6 +1,5 @@
 -- `once::solve_once` meets its contract.
 use mathlib.Core.Path.{sym, ap, ◌∙◌}
-use borrow.Author.Rules.{rules}
 use Rattle.once.specs.Once.{rounding}
 use Rattle.once.proofs.Answers.{prepared_tells, unprepared_tells}
 use Rattle.once.proofs.solve_once.Goals as goal
@@ -16,5 +15,5 @@ pub returns-in-Done-clause-answer : goal.returns-in-Done-clause-answer
 unfolding rounding
 returns-in-Done-clause-answer c =
     let a = c.args in
-    let p = prepared_tells a.rows.now _ (sym c.in-Done.is ∙ BAD:told.prepare.ensures.0) BAD:told.prepare.ensures.1 in
+    let p = prepared_tells a.rows.now _ (sym c.in-Done.is ∙ c.prepare-ready.ensures.answer) c.prepare-ready.ensures.lent in
     c.one_round.ensures ∙ ap (rounding a.task a.bound) (sym p)

@@ -1,10 +1,7 @@
 -- `once::widened` meets its contract.
 -- a finite start outside the box widens it by the larger of two sizes, which a comparison gives
 use mathlib.Core.Path.{◌≡◌, sym, ◌∙◌}
-use mathlib.Core.Logic.{⊎_elim}
 use mathlib.Core.Bool.{true, ◌&&◌, ◌||◌, and-eq-true_iff}
-use borrow.Author.Tests.{not-true, not-false}
-use borrow.Author.Rules.{rules}
 use lib.Ieee.{Float}
 use Rattle.float.specs.Operators.{if◌then◌else◌, ◌⊗◌, ◌≺◌, ◌≻◌}
 use Rattle.float.specs.Float.{abs, finite}
@@ -12,7 +9,7 @@ use Rattle.float.proofs.Laws.{larger_size}
 use Rattle.rows.specs.Constants.{lp_box_growth}
 use Rattle.once.specs.declared.WarmStart.{WarmStart}
 use Rattle.once.specs.Once.{widened}
-use Rattle.once.proofs.widened.Goals.{else-x-y, then-x-y}
+use Rattle.once.proofs.widened.Goals.{then-x-bound-via-then-x-bound, then-x-bound-via-else-x-bound+then-y-bound, then-x-y, else-x-y}
 use Rattle.once.proofs.widened.Goals as goal
 
 outside : (start : WarmStart) (bound : Float) → finite start.x && finite start.y ≡ true
@@ -26,7 +23,7 @@ pub returns-then-not-both_finite : goal.returns-then-not-both_finite
 unfolding widened if◌then◌else◌
 returns-then-not-both_finite c =
     let both = rw c.settled-level.ensures at c.both_finite.ensures in
-    rw (← both, not-true c.both_finite.result c.if-not-both_finite.true)
+    rw (← both, c.if-not-both_finite.true)
 
 pub returns-then-x-bound : goal.returns-then-x-bound
 unfolding if◌then◌else◌ lp_box_growth
@@ -37,10 +34,13 @@ returns-then-x-bound c =
     let both = rw level at c.both_finite.ensures in
     let second = rw level at c.abs-y.ensures in
     let beyond : (abs start.x ≻ bound || abs start.y ≻ bound) ≡ true =
-    rw (← c.abs-x.ensures, ← second) (elim c.then-x-bound.branch [ thenen-x-bound w ↦ rw w.if-x-bound.true | elseen-x-bound w ↦ rw (w.if-x-bound.false, w.1.taken) ]) in
+    rw (← c.abs-x.ensures, ← second) (elim c.then-x-bound.branch [
+      | then-x-bound-via-then-x-bound w ↦ rw w.if-x-bound.true
+      | then-x-bound-via-else-x-bound+then-y-bound w ↦ rw (w.if-x-bound.false, w.if-y-bound.true)
+    ]) in
     let larger : c.if-x-y.larger ≡ (if abs start.x ≺ abs start.y then abs start.y else abs start.x) =
     rw (← c.abs-x.ensures, ← second) (elim c.if-x-y.branch [ then-x-y w ↦ rw w.if-x-y.true w.larger-is | else-x-y w ↦ rw w.if-x-y.false w.larger-is ]) in
-    rw larger (outside start bound (sym both ∙ not-false c.both_finite.result c.if-not-both_finite.false) beyond)
+    rw larger (outside start bound (sym both ∙ c.if-not-both_finite.false) beyond)
 
 pub returns : goal.returns
 unfolding widened if◌then◌else◌
@@ -48,5 +48,5 @@ returns c =
     let level = c.settled-level.ensures in
     let both = rw level at c.both_finite.ensures in
     let second = rw level at c.abs-y.ensures in
-    let finite = not-false c.both_finite.result c.if-not-both_finite.false in
+    let finite = c.if-not-both_finite.false in
     rw (← both, finite, ← c.abs-x.ensures, ← second, c.if-x-bound.false, c.if-y-bound.false)

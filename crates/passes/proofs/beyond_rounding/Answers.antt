@@ -1,6 +1,5 @@
 -- `forward::beyond_rounding` meets its contract.
 use mathlib.Core.Path.{sym}
-use borrow.Author.Rules.{rules}
 use Rattle.float.specs.Float.{zero}
 use Rattle.float.proofs.Laws.{above_no_size}
 use Rattle.rows.specs.Constants.{eps_rounding}

@@ -1,10 +1,6 @@
 -- `deferred::deferred` meets its contract: at each turn so many rounds are left, with `rest` readings.
-use mathlib.Core.Path.{refl}
 use borrow.Author.Rules.{rules}
-use Rattle.readings.specs.Readings.{within}
-use Rattle.rows.specs.Rows.{rows_of}
-use Rattle.passes.specs.Passes.{deferred}
-use Rattle.passes.proofs.Rounds.{Round, rounds_end, scan_stops, none_worse, named, step_stops, step_fails, step_finds}
+use Rattle.passes.proofs.Rounds.{rounds_end, scan_stops, none_worse, named, step_stops, step_fails, step_finds}
 use Rattle.passes.proofs.deferred.Goals as goal
 
 pub returns-in-Spent : goal.returns-in-Spent

@@ -1,10 +1,8 @@
 -- `deferred::deferred` meets its contract: at each turn so many rounds are left, with `rest` readings.
-use mathlib.Core.Path.{refl}
-use borrow.Author.Rules.{rules}
 use Rattle.readings.specs.Readings.{within}
 use Rattle.rows.specs.Rows.{rows_of}
 use Rattle.passes.specs.Passes.{deferred}
-use Rattle.passes.proofs.Rounds.{Round, rounds_end, scan_stops, none_worse, named, step_stops, step_fails, step_finds}
+use Rattle.passes.proofs.Rounds.{Round}
 use Rattle.passes.proofs.deferred.Given as goal
 
 abbrev pub invariant-loop-rounds : goal.invariant-loop-rounds

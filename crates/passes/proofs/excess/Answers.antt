@@ -1,5 +1,4 @@
 -- `deferred::excess` meets its contract.
-use borrow.Author.Rules.{rules}
 use Rattle.rows.specs.Constants.{eps_rounding}
 use Rattle.passes.specs.Passes.{excess}
 use Rattle.passes.proofs.excess.Goals as goal

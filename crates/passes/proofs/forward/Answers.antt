@@ -1,19 +1,14 @@
 -- `forward::forward` meets its contract. The row loop's invariant: row i is next, with `rest` readings left. The attempts': with those left they
 -- give what they gave when they began.
-use mathlib.Core.Path.{refl}
-use mathlib.Core.Logic.{⊎_elim}
-use mathlib.Core.Bool.{cond}
-use Prim.Native.Nat.{◌+◌, ◌-◌}
 use native.Mathlib.Omega.{arith}
 use borrow.Author.Rules.{rules}
-use lib.ListN.{drop}
-use Rattle.readings.specs.Readings.{Paid, within}
 use Rattle.rows.specs.Constants.{repair_tol_scale}
-use Rattle.rows.specs.Rows.{rows_of}
-use Rattle.step.specs.declared.Found.{Found}
-use Rattle.passes.specs.Passes.{violated, forward}
-use Rattle.passes.proofs.Attempts.{Attempt, attempt_stops, attempt_finds, attempt_fails, attempt_again}
-use Rattle.passes.proofs.Turns.{Turn, after, ends, stops, keeps, trial_stops, trial_fails, step_stops, step_fails, step_finds}
+use Rattle.passes.specs.Passes.{violated}
+use Rattle.passes.proofs.Attempts.{attempt_stops, attempt_finds, attempt_fails, attempt_again}
+use Rattle.passes.proofs.Turns.{ends, stops, keeps, trial_stops, trial_fails, step_stops, step_fails, step_finds}
+use Rattle.passes.proofs.forward.Goals.{then-beyond_rounding+in-Failed+in-Done-attempt, then-beyond_rounding+in-Done+in-Done-incre_step_2d, else-beyond_rounding, else-rows-test}
+use Rattle.passes.proofs.forward.Goals.{then-rows-test+else-rest-eq0+then-beyond_rounding+in-Failed+in-Failed-attempt+then-last}
+use Rattle.passes.proofs.forward.Goals.{then-rows-test+else-rest-eq0+then-beyond_rounding+in-Done+in-Failed-incre_step_2d}
 use Rattle.passes.proofs.forward.Goals as goal
 
 pub returns-then-rest-eq0 : goal.returns-then-rest-eq0
@@ -50,39 +45,39 @@ unfolding violated repair_tol_scale
 rows-preserved c =
     let turn = c.rows.invariant in
     let row = c.row_at-r.ensures in
-    ⊎-elim
-    (λ way.
-    let gave = rw (c.residual-residual.ensures, row) at way.1.ensures in
-    let began = trial_fails turn (search rules) (search rules) (cc) gave way.3.given.1 way.6.ensures in
-    rw (way.15, way.16, way.14.ensures)
-    (record { all = search rules; gives = attempt_finds (way.9.inv _ began) way.10.ensures way.12.given.1 }))
-    (⊎_elim
-    (λ way.
-    let gave = rw (c.residual-residual.ensures, row) at way.1.ensures in
-    rw (way.10, way.11, way.9.ensures)
-    (step_finds turn (search rules) (search rules) (cc) gave way.3.given.1 way.5.ensures way.7.given.1))
-    (λ way. rw (way.1, way.2) (keeps turn (search rules) (search rules) (cc))))
-    c.if-beyond_rounding.branch
+    elim c.if-beyond_rounding.branch [
+      | then-beyond_rounding+in-Failed+in-Done-attempt way ↦
+          let gave = rw (c.residual-residual.ensures, row) at way.trial.ensures in
+          let began = trial_fails turn (search rules) (search rules) (cc) gave way.in-Failed.is way.frame-aim.ensures in
+          rw (way.s-is, way.rest-is, way.fresh-s.ensures)
+          (record { all = search rules; gives = attempt_finds (way.attempts.invariant _ began) way.attempt.ensures way.in-Done-attempt.is })
+      | then-beyond_rounding+in-Done+in-Done-incre_step_2d way ↦
+          let gave = rw (c.residual-residual.ensures, row) at way.trial.ensures in
+          rw (way.s-is, way.rest-is, way.fresh-s-in-Done-incre_step_2d.ensures)
+          (step_finds turn (search rules) (search rules) (cc) gave way.in-Done.is way.incre_step_2d.ensures way.in-Done-incre_step_2d.is)
+      | else-beyond_rounding way ↦ rw (way.s-is, way.rest-is) (keeps turn (search rules) (search rules) (cc))
+    ]
 
 pub returns-then-i-n : goal.returns-then-i-n
 unfolding violated repair_tol_scale
 returns-then-i-n c =
     let turn = c.rows.invariant in
-    ⊎-elim
-    (λ way. absurd (omega arith))
-    (⊎_elim
-    (λ way.
-    let gave = rw (way.3.ensures, way.2.ensures) at way.6.ensures in
-    let began = trial_fails turn way.0.taken (search rules) (cc) gave way.8.given.1 way.11.ensures in
-    rw way.21 (attempt_fails (way.14.inv _ began) way.15.ensures way.17.given.1 way.19.taken))
-    (λ way.
-    let gave = rw (way.3.ensures, way.2.ensures) at way.6.ensures in
-    rw way.15 (step_fails turn way.0.taken (search rules) (cc) gave way.8.given.1 way.10.ensures way.12.given.1)))
-    c.rows-test.branch
+    elim c.rows-test.branch [
+      | else-rows-test way ↦ absurd (omega arith)
+      | then-rows-test+else-rest-eq0+then-beyond_rounding+in-Failed+in-Failed-attempt+then-last way ↦
+          let gave = rw (way.residual-residual.ensures, way.row_at-r.ensures) at way.trial.ensures in
+          let began = trial_fails turn way.rows-test.true (search rules) (cc) gave way.in-Failed.is way.frame-aim.ensures in
+          rw way.rest-is (attempt_fails (way.attempts.invariant _ began) way.attempt.ensures way.in-Failed-attempt.is way.if-last.true)
+      | then-rows-test+else-rest-eq0+then-beyond_rounding+in-Done+in-Failed-incre_step_2d way ↦
+          let gave = rw (way.residual-residual.ensures, way.row_at-r.ensures) at way.trial.ensures in
+          rw way.rest-is
+          (step_fails turn way.rows-test.true (search rules) (cc) gave way.in-Done.is way.incre_step_2d.ensures way.in-Failed-incre_step_2d.is)
+    ]
 
 pub returns : goal.returns
 returns c =
-    ⊎-elim
-    (λ way. rw (way.1, way.2) (ends c.rows.invariant way.0.left))
-    (⊎_elim (λ way. absurd (omega arith)) (λ way. absurd (omega arith)))
-    c.rows-test.branch
+    elim c.rows-test.branch [
+      | else-rows-test way ↦ rw (way.s-is, way.rest-is) (ends c.rows.invariant way.rows-test.false)
+      | then-rows-test+else-rest-eq0+then-beyond_rounding+in-Failed+in-Failed-attempt+then-last way ↦ absurd (omega arith)
+      | then-rows-test+else-rest-eq0+then-beyond_rounding+in-Done+in-Failed-incre_step_2d way ↦ absurd (omega arith)
+    ]

@@ -1,19 +1,14 @@
 -- `forward::forward` meets its contract. The row loop's invariant: row i is next, with `rest` readings left. The attempts': with those left they
 -- give what they gave when they began.
-use mathlib.Core.Path.{refl}
-use mathlib.Core.Logic.{⊎_elim}
 use mathlib.Core.Bool.{cond}
 use Prim.Native.Nat.{◌+◌, ◌-◌}
-use native.Mathlib.Omega.{arith}
-use borrow.Author.Rules.{rules}
 use lib.ListN.{drop}
 use Rattle.readings.specs.Readings.{Paid, within}
-use Rattle.rows.specs.Constants.{repair_tol_scale}
 use Rattle.rows.specs.Rows.{rows_of}
 use Rattle.step.specs.declared.Found.{Found}
-use Rattle.passes.specs.Passes.{violated, forward}
-use Rattle.passes.proofs.Attempts.{Attempt, attempt_stops, attempt_finds, attempt_fails, attempt_again}
-use Rattle.passes.proofs.Turns.{Turn, after, ends, stops, keeps, trial_stops, trial_fails, step_stops, step_fails, step_finds}
+use Rattle.passes.specs.Passes.{forward}
+use Rattle.passes.proofs.Attempts.{Attempt}
+use Rattle.passes.proofs.Turns.{Turn, after}
 use Rattle.passes.proofs.forward.Given as goal
 
 abbrev pub invariant-attempts : goal.invariant-attempts

@@ -1,6 +1,5 @@
 -- `forward::trial` meets its contract.
 use mathlib.Core.Path.{sym, ap}
-use borrow.Author.Rules.{rules}
 use Rattle.float.specs.Operators.{if◌then◌else◌}
 use Rattle.readings.proofs.Laws.{within-pure}
 use Rattle.step.specs.Step.{stepped}

@@ -1,14 +1,9 @@
 -- `deferred::worst_row` meets its contract: at each turn it stands at row i with the worst row so far and `rest` readings left.
-use mathlib.Core.Path.{refl}
-use mathlib.Core.Logic.{⊎_elim}
 use Prim.Native.Nat.{◌-◌}
-use lib.Ieee.{lt, of_bits}
-use borrow.Author.Rules.{rules}
-use Rattle.float.specs.Float.{zero}
 use Rattle.readings.specs.Readings.{within}
 use Rattle.rows.specs.Rows.{rows_of}
 use Rattle.passes.specs.Passes.{worst, none}
-use Rattle.passes.proofs.Scan.{Scan, ends, stops, takes, passes_over, skips}
+use Rattle.passes.proofs.Scan.{Scan}
 use Rattle.passes.proofs.worst_row.Given as goal
 
 abbrev pub invariant-loop-i : goal.invariant-loop-i

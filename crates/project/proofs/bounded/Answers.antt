@@ -1,5 +1,4 @@
 -- `project::bounded` meets its contract.
-use borrow.Author.Rules.{rules}
 use Rattle.float.specs.Operators.{if◌then◌else◌}
 use Rattle.float.specs.Float.{zero}
 use Rattle.project.specs.Project.{bounded}

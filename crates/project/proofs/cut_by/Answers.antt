@@ -1,5 +1,4 @@
 -- `project::cut_by` meets its contract.
-use borrow.Author.Rules.{rules}
 use Rattle.float.specs.Operators.{if◌then◌else◌}
 use Rattle.project.specs.Project.{cut}
 use Rattle.project.proofs.cut_by.Goals as goal

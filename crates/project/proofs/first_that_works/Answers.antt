@@ -1,12 +1,6 @@
 -- `project::first_that_works` meets its contract.
-use mathlib.Core.Path.{refl}
-use Prim.Native.Nat.{◌-◌}
 use borrow.Author.Rules.{rules}
-use lib.ListN.{length, take}
-use Rattle.readings.specs.Readings.{within}
-use Rattle.rows.specs.Rows.{rows_of}
-use Rattle.project.specs.Project.{first_that_works}
-use Rattle.project.proofs.Attempts.{Turn, ends, stops, finds, tries_on}
+use Rattle.project.proofs.Attempts.{ends, stops, finds, tries_on}
 use Rattle.project.proofs.first_that_works.Goals as goal
 
 pub returns-in-Pass : goal.returns-in-Pass

@@ -1,9 +1,8 @@
 -- `project::inside` meets its contract: there is no middle where either end is not finite.
-use mathlib.Core.Logic.{⊎_elim}
-use borrow.Author.Rules.{rules}
 use Rattle.float.specs.Operators.{if◌then◌else◌}
 use Rattle.rows.specs.Constants.{half}
 use Rattle.project.specs.Project.{middle, attempts, inside}
+use Rattle.project.proofs.inside.Goals.{else-is_finite-via-then-is_finite+else-is_finite-2, else-is_finite-via-else-is_finite}
 use Rattle.project.proofs.inside.Goals as goal
 
 pub returns-then-is_finite-2 : goal.returns-then-is_finite-2
@@ -16,4 +15,8 @@ pub returns : goal.returns
 unfolding inside attempts middle if◌then◌else◌
 returns c =
     rw (← c.max.ensures, ← c.min-moved.ensures, ← c.is_finite.ensures)
-    (elim c.else-is_finite.branch [ thense-is_finite w ↦ rw (w.if-is_finite.true, ← w.is_finite-then-is_finite.ensures, w.struct_known-1.false) c.first_that_works-2.ensures | elsese-is_finite w ↦ rw w.if-is_finite.false c.first_that_works-2.ensures ])
+    (elim c.else-is_finite.branch [
+      | else-is_finite-via-then-is_finite+else-is_finite-2 w ↦
+          rw (w.if-is_finite.true, ← w.is_finite-then-is_finite.ensures, w.if-is_finite-2.false) c.first_that_works-2.ensures
+      | else-is_finite-via-else-is_finite w ↦ rw w.if-is_finite.false c.first_that_works-2.ensures
+    ])

@@ -1,12 +1,8 @@
 -- `project::interval_of` meets its contract.
-use Prim.Native.Nat.{◌-◌}
 use borrow.Author.Rules.{rules}
-use lib.ListN.{take}
 use lib.Ieee.{neg}
-use Rattle.readings.specs.Readings.{within}
-use Rattle.rows.specs.Rows.{rows_of}
-use Rattle.project.specs.Project.{interval, everywhere}
-use Rattle.project.proofs.Cuts.{Turn, ends-crossed, ends, stops, keeps, empties}
+use Rattle.project.specs.Project.{everywhere}
+use Rattle.project.proofs.Cuts.{ends-crossed, ends, stops, keeps, empties}
 use Rattle.project.proofs.interval_of.Goals as goal
 
 pub loop-i-init : goal.loop-i-init

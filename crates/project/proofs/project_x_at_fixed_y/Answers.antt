@@ -1,5 +1,4 @@
 -- `project::project_x_at_fixed_y` meets its contract.
-use borrow.Author.Rules.{rules}
 use Rattle.project.proofs.Parts.{own_spent, own_works, span_spent, span_empty, span_kept}
 use Rattle.project.proofs.project_x_at_fixed_y.Goals as goal
 

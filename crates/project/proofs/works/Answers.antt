@@ -1,7 +1,6 @@
 -- `project::works` meets its contract.
 use mathlib.Core.Path.{sym, ap}
 use mathlib.Core.Bool.{false}
-use borrow.Author.Rules.{rules}
 use Rattle.float.specs.Operators.{if◌then◌else◌}
 use Rattle.readings.proofs.Laws.{within-pure}
 use Rattle.scan.specs.Scan.{scanned}

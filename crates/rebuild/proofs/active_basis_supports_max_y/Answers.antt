@@ -1,6 +1,5 @@
 -- `rebuild::active_basis_supports_max_y` meets its contract.
 use Rattle.rebuild.specs.Supports.{supported_by, supports}
-use borrow.Author.Rules.{rules}
 use Rattle.rebuild.proofs.active_basis_supports_max_y.Goals as goal
 
 pub returns-in-NoRow : goal.returns-in-NoRow

@@ -1,7 +1,6 @@
 -- `rebuild::better` meets its contract.
 use Rattle.float.specs.Operators.{if◌then◌else◌}
 use Rattle.rebuild.specs.Rebuild.{better}
-use borrow.Author.Rules.{rules}
 use Rattle.rebuild.proofs.better.Goals as goal
 
 pub returns-then-s-t : goal.returns-then-s-t

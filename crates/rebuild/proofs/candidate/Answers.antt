@@ -1,6 +1,5 @@
 -- `rebuild::candidate` meets its contract.
 use Rattle.rebuild.proofs.Cases.{try_spent, try_fails, try_implausible, try_tested}
-use borrow.Author.Rules.{rules}
 use Rattle.rebuild.proofs.candidate.Goals as goal
 
 pub returns-then-plausible : goal.returns-then-plausible

@@ -1,8 +1,6 @@
 -- `rebuild::factors` meets its contract.
-use mathlib.Core.Logic.{⊎_elim}
 use Rattle.float.specs.Float.{zero}
 use Rattle.rebuild.specs.Supports.{factors}
-use borrow.Author.Rules.{rules}
 use Rattle.rebuild.proofs.factors.Goals.{else-is_finite, else-is_finite-2, then-is_finite, then-is_finite-2}
 use Rattle.rebuild.proofs.factors.Goals as goal
 

@@ -1,6 +1,5 @@
 -- `rebuild::on_boundary` meets its contract.
 use Rattle.rebuild.specs.Supports.{on_boundary}
-use borrow.Author.Rules.{rules}
 use Rattle.rebuild.proofs.on_boundary.Goals as goal
 
 pub returns : goal.returns

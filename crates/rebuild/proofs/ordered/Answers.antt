@@ -4,7 +4,6 @@ use Prim.Native.Nat.{ℕ}
 use Rattle.active.specs.declared.Slot.{Slot}
 use Rattle.active.specs.declared.Slot.TheVariants.{Holds}
 use Rattle.rebuild.specs.Rebuild.{ordered_by, ordered}
-use borrow.Author.Rules.{rules}
 use Rattle.rebuild.proofs.ordered.Goals as goal
 
 kept : {first : Slot} (second : Slot) {i : ℕ} → first ≡ Holds i → record { first = first; second = second } ≡ ordered_by first second

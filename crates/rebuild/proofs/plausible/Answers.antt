@@ -1,22 +1,25 @@
 -- `rebuild::plausible` meets its contract.
-use mathlib.Core.Logic.{⊎_elim}
 use Rattle.rebuild.specs.Rebuild.{plausible}
 use Rattle.rebuild.proofs.Tests.{holds, fails}
-use borrow.Author.Rules.{rules}
+use Rattle.rebuild.proofs.plausible.Goals.{then-not-is_finite-via-then-not-is_finite}
+use Rattle.rebuild.proofs.plausible.Goals.{then-not-is_finite-via-else-not-is_finite+then-not-is_finite-2}
+use Rattle.rebuild.proofs.plausible.Goals.{then-not-is_finite-via-else-not-is_finite+else-not-is_finite-2+then-p-floor}
+use Rattle.rebuild.proofs.plausible.Goals.{then-not-is_finite-via-else-not-is_finite+else-not-is_finite-2+else-p-floor+then-p-top}
 use Rattle.rebuild.proofs.plausible.Goals as goal
 
 pub returns-then-not-is_finite : goal.returns-then-not-is_finite
 unfolding plausible
 returns-then-not-is_finite c =
     let finite-x = c.is_finite.ensures in
-    ⊎-elim
-    (λ w. rw (fails finite-x w.taken))
-    (⊎_elim
-    (λ w. rw (holds finite-x w.0.left, fails w.1.ensures w.2.taken))
-    (⊎_elim
-    (λ w. rw (holds finite-x w.0.left, holds w.1.ensures w.2.left, w.4.taken))
-    (λ w. rw (holds finite-x w.0.left, holds w.1.ensures w.2.left, w.4.left, w.6.taken))))
-    c.then-not-is_finite.branch
+    elim c.then-not-is_finite.branch [
+      | then-not-is_finite-via-then-not-is_finite w ↦ rw (fails finite-x w.if-not-is_finite.true)
+      | then-not-is_finite-via-else-not-is_finite+then-not-is_finite-2 w ↦
+          rw (holds finite-x w.if-not-is_finite.false, fails w.is_finite-else-not-is_finite.ensures w.if-not-is_finite-2.true)
+      | then-not-is_finite-via-else-not-is_finite+else-not-is_finite-2+then-p-floor w ↦
+          rw (holds finite-x w.if-not-is_finite.false, holds w.is_finite-else-not-is_finite.ensures w.if-not-is_finite-2.false, w.if-p-floor.true)
+      | then-not-is_finite-via-else-not-is_finite+else-not-is_finite-2+else-p-floor+then-p-top w ↦
+          rw (holds finite-x w.if-not-is_finite.false, holds w.is_finite-else-not-is_finite.ensures w.if-not-is_finite-2.false, w.if-p-floor.false, w.if-p-top.true)
+    ]
 
 pub returns : goal.returns
 unfolding plausible

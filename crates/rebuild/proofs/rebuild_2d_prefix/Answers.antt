@@ -1,14 +1,7 @@
 -- `rebuild::rebuild_2d_prefix` meets its contract: at each turn row i is next, and what is left of the search gives the whole.
-use mathlib.Core.Path.{refl}
-use mathlib.Core.Logic.{⊎_elim}
-use Prim.Native.Nat.{◌-◌}
-use lib.ListN.{take}
-use Rattle.readings.specs.Readings.{within}
-use Rattle.rows.specs.Rows.{rows_of}
-use Rattle.step.specs.declared.Found.TheVariants.{Failed}
-use Rattle.rebuild.specs.Rebuild.{rebuild}
-use Rattle.rebuild.proofs.Search.{Searching, search_ends, search_spent, search_won, search_goes_on}
+use Rattle.rebuild.proofs.Search.{search_ends, search_spent, search_won, search_goes_on}
 use borrow.Author.Rules.{rules}
+use Rattle.rebuild.proofs.rebuild_2d_prefix.Goals.{else-rows-test, then-rows-test+in-Won}
 use Rattle.rebuild.proofs.rebuild_2d_prefix.Goals as goal
 
 pub returns-in-Spent : goal.returns-in-Spent
@@ -20,7 +13,8 @@ rows-preserved c = search_goes_on c.rows.invariant c.rows-test.true (search rule
 pub returns : goal.returns
 returns c =
     let here = c.rows.invariant in
-    ⊎-elim
-    (λ w. rw (c.shown.ensures, w.1, w.2) (search_ends here w.0.left))
-    (λ w. rw (c.shown.ensures, w.5, w.6) (search_won here w.0.taken (search rules) w.1.ensures w.3.given.1))
-    c.rows-test.branch
+    elim c.rows-test.branch [
+      | else-rows-test w ↦ rw (c.shown.ensures, w.best-is, w.rest-is) (search_ends here w.rows-test.false)
+      | then-rows-test+in-Won w ↦
+          rw (c.shown.ensures, w.best-is, w.rest-is) (search_won here w.rows-test.true (search rules) w.turn_of.ensures w.in-Won.is)
+    ]

@@ -1,14 +1,11 @@
 -- `rebuild::rebuild_2d_prefix` meets its contract: at each turn row i is next, and what is left of the search gives the whole.
-use mathlib.Core.Path.{refl}
-use mathlib.Core.Logic.{⊎_elim}
 use Prim.Native.Nat.{◌-◌}
 use lib.ListN.{take}
 use Rattle.readings.specs.Readings.{within}
 use Rattle.rows.specs.Rows.{rows_of}
 use Rattle.step.specs.declared.Found.TheVariants.{Failed}
 use Rattle.rebuild.specs.Rebuild.{rebuild}
-use Rattle.rebuild.proofs.Search.{Searching, search_ends, search_spent, search_won, search_goes_on}
-use borrow.Author.Rules.{rules}
+use Rattle.rebuild.proofs.Search.{Searching}
 use Rattle.rebuild.proofs.rebuild_2d_prefix.Given as goal
 
 abbrev pub invariant-rows : goal.invariant-rows

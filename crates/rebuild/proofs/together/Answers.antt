@@ -2,7 +2,6 @@
 use Rattle.float.specs.Operators.{if◌then◌else◌}
 use Rattle.rows.specs.Rows.{determinant}
 use Rattle.rebuild.specs.Supports.{together}
-use borrow.Author.Rules.{rules}
 use Rattle.rebuild.proofs.together.Goals as goal
 
 pub returns-then-singular : goal.returns-then-singular

@@ -1,6 +1,5 @@
 -- `rebuild::turn_of` meets its contract.
 use Rattle.rebuild.proofs.Cases.{turn_passed, turn_spent, turn_fails, turn_won, turn-better}
-use borrow.Author.Rules.{rules}
 use Rattle.rebuild.proofs.turn_of.Goals as goal
 
 pub returns-then-no_boundary : goal.returns-then-no_boundary

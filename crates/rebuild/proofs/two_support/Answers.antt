@@ -1,22 +1,28 @@
 -- `rebuild::two_support` meets its contract.
-use mathlib.Core.Logic.{⊎_elim}
 use borrow.Author.Tests.{eq-eqb, ne_eqb}
 use Rattle.float.specs.Operators.{if◌then◌else◌}
 use Rattle.rebuild.specs.Supports.{two_support}
 use Rattle.rebuild.proofs.Tests.{holds, fails}
-use borrow.Author.Rules.{rules}
+use Rattle.rebuild.proofs.two_support.Goals.{then-not-among-via-then-not-among}
+use Rattle.rebuild.proofs.two_support.Goals.{then-not-among-via-else-not-among+then-not-on_boundary}
+use Rattle.rebuild.proofs.two_support.Goals.{then-not-among-via-else-not-among+else-not-on_boundary+then-not-on_boundary-2}
 use Rattle.rebuild.proofs.two_support.Goals as goal
 
 pub returns-then-not-among : goal.returns-then-not-among
 unfolding two_support
 returns-then-not-among c =
     let named = c.among.ensures in
-    ⊎-elim
-    (λ w. rw (fails named w.taken))
-    (⊎_elim
-    (λ w. rw (holds named w.0.left, fails w.1.ensures w.2.taken))
-    (λ w. rw (holds named w.0.left, holds w.1.ensures w.2.left, fails w.3.ensures w.4.taken)))
-    c.then-not-among.branch
+    elim c.then-not-among.branch [
+      | then-not-among-via-then-not-among w ↦ rw (fails named w.if-not-among.true)
+      | then-not-among-via-else-not-among+then-not-on_boundary w ↦
+          rw (holds named w.if-not-among.false, fails w.on_boundary.ensures w.if-not-on_boundary.true)
+      | then-not-among-via-else-not-among+else-not-on_boundary+then-not-on_boundary-2 w ↦
+          rw (
+            holds named w.if-not-among.false,
+            holds w.on_boundary.ensures w.if-not-on_boundary.false,
+            fails w.on_boundary-else-not-on_boundary.ensures w.if-not-on_boundary-2.true,
+          )
+    ]
 
 pub returns-then-i-j : goal.returns-then-i-j
 unfolding two_support if◌then◌else◌

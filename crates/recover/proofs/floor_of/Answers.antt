@@ -1,7 +1,6 @@
 -- `recover::floor_of` meets its contract.
 use lib.Ieee.{neg}
 use Rattle.recover.specs.Recover.{floor_of}
-use borrow.Author.Rules.{rules}
 use Rattle.recover.proofs.floor_of.Goals as goal
 
 pub returns-in-Nowhere : goal.returns-in-Nowhere

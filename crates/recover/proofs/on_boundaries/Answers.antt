@@ -1,6 +1,5 @@
 -- `recover::on_boundaries` meets its contract.
 use Rattle.recover.proofs.Cases.{bound_spent, bound_fails, bound_done}
-use borrow.Author.Rules.{rules}
 use Rattle.recover.proofs.on_boundaries.Goals as goal
 
 pub returns-in-Spent : goal.returns-in-Spent

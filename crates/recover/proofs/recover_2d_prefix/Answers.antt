@@ -1,6 +1,5 @@
 -- `recover::recover_2d_prefix` meets its contract.
 use Rattle.recover.proofs.Entry.{entry_refuses, prefix_too_long, entry_finds, entry_fails, never_spent}
-use borrow.Author.Rules.{rules}
 use Rattle.recover.proofs.recover_2d_prefix.Goals as goal
 
 pub returns-then-number-ne0 : goal.returns-then-number-ne0

@@ -1,6 +1,5 @@
 -- `recover::recover_prefix` meets its contract.
 use Rattle.recover.proofs.Cases.{recover_spent, recover_nowhere, recover_at}
-use borrow.Author.Rules.{rules}
 use Rattle.recover.proofs.recover_prefix.Goals as goal
 
 pub returns-in-Spent : goal.returns-in-Spent

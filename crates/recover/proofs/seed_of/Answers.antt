@@ -1,6 +1,5 @@
 -- `recover::seed_of` meets its contract.
 use Rattle.recover.specs.Recover.{seed_of}
-use borrow.Author.Rules.{rules}
 use Rattle.recover.proofs.seed_of.Goals as goal
 
 pub returns-in-Nowhere : goal.returns-in-Nowhere

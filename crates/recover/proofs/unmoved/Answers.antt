@@ -1,7 +1,6 @@
 -- `recover::unmoved` meets its contract.
 use Rattle.float.specs.Operators.{if◌then◌else◌}
 use Rattle.recover.specs.Recover.{unmoved}
-use borrow.Author.Rules.{rules}
 use Rattle.recover.proofs.unmoved.Goals as goal
 
 pub returns-then-x-s : goal.returns-then-x-s

@@ -1,5 +1,4 @@
 -- `solve::active_rows` meets its contract.
-use borrow.Author.Rules.{rules}
 use Rattle.solve.specs.Solve.{active_rows}
 use Rattle.solve.proofs.active_rows.Goals as goal
 

@@ -1,5 +1,4 @@
 -- `solve::answer_of` meets its contract.
-use borrow.Author.Rules.{rules}
 use Rattle.float.specs.Operators.{if◌then◌else◌}
 use Rattle.float.proofs.Nans.{nan_test}
 use Rattle.solve.specs.Solve.{answer}

@@ -1,7 +1,6 @@
 -- `solve::few` meets its contract.
 use mathlib.Core.Path.{◌≡◌}
 use native.Mathlib.Omega.{arith}
-use borrow.Author.Rules.{rules}
 use lib.ListN.{length}
 use Rattle.rows.specs.Rows.{rows_of}
 use Rattle.rows.proofs.Lengths.{length-rows_of}

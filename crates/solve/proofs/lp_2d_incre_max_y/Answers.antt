@@ -1,6 +1,5 @@
 -- `solve::lp_2d_incre_max_y` meets its contract.
 use native.Mathlib.Omega.{arith}
-use borrow.Author.Rules.{rules}
 use Rattle.solve.specs.Solve.{silent}
 use Rattle.solve.proofs.Unlimited.{unlimited}
 use Rattle.solve.proofs.lp_2d_incre_max_y.Goals as goal

@@ -1,11 +1,7 @@
 -- `solve::many` meets its contract. The loop's invariant: what the solves still to go come to with the readings left is what all of them come to.
-use mathlib.Core.Path.{refl, ◌∙◌}
 use Prim.Native.Nat.{◌-◌}
-use native.Mathlib.Omega.{arith}
-use borrow.Author.Rules.{rules}
-use Rattle.rows.specs.Constants.{lp_bound, lp_box_growth}
 use Rattle.rows.specs.Rows.{rows_of}
-use Rattle.solve.proofs.Rounds.{Going, from_all, turn}
+use Rattle.solve.proofs.Rounds.{Going}
 use Rattle.solve.proofs.many.Given as goal
 
 abbrev pub invariant-loop-found : goal.invariant-loop-found

@@ -1,5 +1,4 @@
 -- `solve::refusal_of` meets its contract.
-use borrow.Author.Rules.{rules}
 use Rattle.solve.specs.Solve.{refusal_of}
 use Rattle.solve.proofs.refusal_of.Goals as goal
 

@@ -1,7 +1,6 @@
 -- `solve::solve` meets its contract.
 use mathlib.Core.Path.{sym, ◌∙◌}
 use native.Mathlib.Omega.{arith}
-use borrow.Author.Rules.{rules}
 use Rattle.solve.specs.Solve.{allowed, solve}
 use Rattle.solve.proofs.Refusals.{refusal_0}
 use Rattle.solve.proofs.Allowance.{solve_refuses, takes}

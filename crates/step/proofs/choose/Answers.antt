@@ -2,7 +2,6 @@
 use Rattle.float.specs.Operators.{if◌then◌else◌}
 use Rattle.float.specs.Float.{zero}
 use Rattle.step.specs.Step.{chosen}
-use borrow.Author.Rules.{rules}
 use Rattle.step.proofs.choose.Goals as goal
 
 pub returns-then-is_finite : goal.returns-then-is_finite

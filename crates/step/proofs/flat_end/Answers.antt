@@ -1,6 +1,5 @@
 -- `step::flat_end` meets its contract.
 use Rattle.step.specs.Step.{flat_end}
-use borrow.Author.Rules.{rules}
 use Rattle.step.proofs.flat_end.Goals as goal
 
 pub returns-in-Empty : goal.returns-in-Empty

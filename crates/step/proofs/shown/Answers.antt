@@ -1,6 +1,5 @@
 -- `step::shown` meets its contract.
 use Rattle.step.specs.Step.{stepped}
-use borrow.Author.Rules.{rules}
 use Rattle.step.proofs.shown.Goals as goal
 
 pub returns-in-Failed : goal.returns-in-Failed

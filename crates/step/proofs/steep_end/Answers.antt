@@ -2,7 +2,6 @@
 use Rattle.float.proofs.Nans.{nan_test}
 use Rattle.float.specs.Operators.{if◌then◌else◌}
 use Rattle.step.specs.Step.{steep_end}
-use borrow.Author.Rules.{rules}
 use Rattle.step.proofs.steep_end.Goals as goal
 
 pub returns-then-high : goal.returns-then-high

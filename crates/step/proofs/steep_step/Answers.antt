@@ -6,7 +6,6 @@ use Rattle.rows.specs.Rows.{rows_of}
 use Rattle.line.proofs.Reduction.{tells}
 use Rattle.step.specs.Step.{stepped}
 use Rattle.step.proofs.Cases.{steep_spent, steep_done}
-use borrow.Author.Rules.{rules}
 use Rattle.step.proofs.steep_step.Goals as goal
 
 pub returns-in-Spent : goal.returns-in-Spent

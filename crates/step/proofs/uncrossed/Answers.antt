@@ -2,7 +2,6 @@
 use Rattle.float.specs.Operators.{if◌then◌else◌}
 use Rattle.rows.specs.Constants.{eps_rounding, half}
 use Rattle.step.specs.Step.{uncrossed}
-use borrow.Author.Rules.{rules}
 use Rattle.step.proofs.uncrossed.Goals as goal
 
 pub returns-then-low-high : goal.returns-then-low-high

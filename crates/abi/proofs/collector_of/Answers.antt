@@ -1,0 +1,7 @@
+-- `abi::collector_of` meets its contract.
+use Rattle.abi.specs.Entries.{collector}
+use Rattle.abi.proofs.collector_of.Goals as goal
+
+pub returns : goal.returns
+unfolding collector
+returns c = rw (c.slot_of-one.ensures, c.slot_of-other.ensures)

@@ -1,0 +1,7 @@
+-- `abi::refusal_of` meets its contract.
+use Rattle.abi.specs.Entries.{refusal_of}
+use Rattle.abi.proofs.refusal_of.Goals as goal
+
+pub returns : goal.returns
+unfolding refusal_of
+returns c = rw (← c.task_of.ensures, ← c.refusal_of.ensures) c.or_ten.ensures
