@@ -1,6 +1,6 @@
 -- Laws of what a whole input prints: a first record that is all there prints its line, and then what the rest prints; one that is not ends it.
 use mathlib.Core.Path.{◌≡◌, refl}
-use mathlib.Core.Bool.{true, false, not, and_false}
+use mathlib.Core.Bool.{true, false, not, and-false}
 use mathlib.Core.List.{List, [], ◌∷◌, ◌++◌}
 use Prim.Native.Nat.{ℕ, zero, suc, ◌+◌, ◌≤◌, ◌<◌}
 use native.Mathlib.Omega.{arith}
@@ -27,7 +27,7 @@ module _ (bytes : List ℕ) where
 
   is_cut : length bytes < size bytes → whole bytes ≡ false
   unfolding whole
-  is_cut h = rw (lt-ltb (length bytes) (size bytes) h) (and_false (not (ltb (length bytes) header_bytes)))
+  is_cut h = rw (lt-ltb (length bytes) (size bytes) h) (and-false (not (ltb (length bytes) header_bytes)))
 
 -- ---- what is printed, with as many turns as there are bytes, or more
 

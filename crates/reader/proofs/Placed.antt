@@ -1,6 +1,6 @@
 -- What bytes of one part of a record leave when they take their places: before the rows they are held, or passed over; of the rows likewise.
 use mathlib.Core.Path.{◌≡◌, refl, sym, ◌∙◌}
-use mathlib.Core.Bool.{Bool, true, false, and_false}
+use mathlib.Core.Bool.{Bool, true, false, and-false}
 use mathlib.Core.List.{List, [], ◌∷◌, ◌++◌}
 use Prim.Native.Nat.{ℕ, suc, ◌+◌, ◌-◌, ◌≤◌, ◌<◌}
 use native.Mathlib.Nat.{sub-zero, add-zero}
@@ -56,7 +56,7 @@ module _ (link : Link) (head : List ℕ) (rows : List Float) (b : ℕ) where
   unfolding state placed in_rows head_with word_with rows_with if◌then◌else◌
   placed-held h =
       let early : link.passed < rows_at = omega (arith, (kept_between head).1) in
-      rw (lt-ltb link.passed (kept head) h, lt-ltb link.passed rows_at early, and_false (keeps_rows head))
+      rw (lt-ltb link.passed (kept head) h, lt-ltb link.passed rows_at early, and-false (keeps_rows head))
 
   placed_over : keeps_rows head ≡ false → kept head ≤ link.passed → placed s b ≡ state (onward link 1 link.word) head rows
   unfolding state placed in_rows head_with word_with rows_with if◌then◌else◌

@@ -1,0 +1,57 @@
+-- `reader::take_rows` meets its contract.
+use mathlib.Core.Path.{sym, ◌∙◌}
+use native.Mathlib.Omega.{arith}
+use borrow.Author.Tests.{lt-ltb, le-ltb, eq-eqb, ne_eqb}
+use lib.ListN.{length-take}
+use Rattle.float.specs.Operators.{if◌then◌else◌}
+use Rattle.record.specs.Sizes.{header_bytes, field_bytes, rows_at, most_floats}
+use Rattle.record.specs.Record.{body_length, kind, size}
+use Rattle.record.proofs.Refusals.{solved-length}
+use Rattle.reader.specs.Reader.{keeps_rows}
+use Rattle.reader.specs.Parts.{word_on, rows_on, of_rows}
+use Rattle.reader.proofs.Placed.{word_on-none, rows_on-none}
+use Rattle.reader.proofs.take_rows.Goals as goal
+
+pub returns-then-passed-lt-ROWS_AT : goal.returns-then-passed-lt-ROWS_AT
+unfolding of_rows if◌then◌else◌ rows_at
+returns-then-passed-lt-ROWS_AT c =
+    let a = c.args in
+    let head = a.head.now in
+    record {
+      taken = rw (lt-ltb a.passed rows_at c.if-passed-lt-ROWS_AT.true);
+      fits = omega arith;
+      word = sym (word_on-none a.passed head a.word);
+      rows = sym (rows_on-none a.passed head a.word a.rows.now);
+    }
+
+pub returns-then-number_of-ne0 : goal.returns-then-number_of-ne0
+unfolding of_rows word_on rows_on keeps_rows if◌then◌else◌ rows_at
+returns-then-number_of-ne0 c =
+    let number = sym c.number_of.ensures in
+    let none = ne_eqb _ _ c.if-number_of-ne0.true in
+    record {
+      taken = rw (le-ltb _ rows_at c.if-passed-lt-ROWS_AT.false, ← c.size_of.ensures.value) c.least-n.ensures;
+      fits = omega arith;
+      word = rw (number, none);
+      rows = rw (number, none);
+    }
+
+pub push_rows-now-requires : goal.push_rows-now-requires
+unfolding rows_at size header_bytes field_bytes most_floats
+push_rows-now-requires c =
+    let a = c.args in
+    let solved = solved-length (kind a.head.now) (body_length a.head.now) 0 (sym c.number_of.ensures ∙ c.if-number_of-ne0.false) in
+    let long = length-take c.least-n.result a.bytes.now in
+    record { bytes_bound = omega (arith, solved.0, solved.2); rows_len_bound = omega arith }
+
+pub returns : goal.returns
+unfolding of_rows word_on rows_on keeps_rows if◌then◌else◌ rows_at
+returns c =
+    let none = sym c.number_of.ensures in
+    let solved = eq-eqb _ _ c.if-number_of-ne0.false in
+    record {
+      taken = rw (le-ltb _ rows_at c.if-passed-lt-ROWS_AT.false, ← c.size_of.ensures.value) c.least-n.ensures;
+      fits = omega arith;
+      word = rw (none, solved) c.push_rows-now.ensures.word;
+      rows = rw (none, solved) c.push_rows-now.ensures.rows;
+    }
