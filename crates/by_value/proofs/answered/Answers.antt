@@ -1,5 +1,4 @@
 -- `by_value::answered` meets its contract.
-use borrow.Author.Rules.{rules}
 use Rattle.by_value.specs.ByValue.{answered}
 use Rattle.by_value.proofs.answered.Goals as goal
 

@@ -1,5 +1,4 @@
 -- `by_value::kept` meets its contract.
-use borrow.Author.Rules.{rules}
 use Rattle.active.specs.Collector.{held, collected}
 use Rattle.solve.specs.Solve.{collector}
 use Rattle.by_value.specs.ByValue.{kept}

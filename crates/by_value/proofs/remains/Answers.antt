@@ -1,5 +1,4 @@
 -- `by_value::remains` meets its contract.
-use borrow.Author.Rules.{rules}
 use Rattle.by_value.specs.ByValue.{remains}
 use Rattle.by_value.proofs.remains.Goals as goal
 
