@@ -1,9 +1,3 @@
-pub mod Copy
 pub mod Demands
-pub mod Laws
 pub mod Prefix
-pub mod Rules
-pub mod Set
-pub mod Slices
-pub mod Through
 pub mod Unique

@@ -1,12 +1,8 @@
 -- The first rows of a slice: rows that are set one after the other, rows that lie first in a flat slice, and rows that go there to be solved and come back.
 -- Assumes nothing.
-use mathlib.Core.Path.{◌≡◌, refl, sym, ap, ◌∙◌}
-use mathlib.Core.List.{List, [], ◌∷◌}
-use Prim.Native.Nat.{ℕ, zero, suc, ◌+◌, ◌*◌, ◌≤◌, ◌<◌}
-use native.Mathlib.Omega.{arith}
-use native.Mathlib.Numerals.{add-one}
-use lib.ListN.{length, set, take}
-use lib.Seq.{take-length}
+use Rattle.std.proofs.Common.{◌≡◌, refl, sym, ap, ◌∙◌, List, [], ◌∷◌, ◌++◌, ℕ, zero, suc, ◌+◌, ◌*◌, ◌≤◌, ◌<◌, arith, length, get_or, set, take}
+use Rattle.std.proofs.Math.Seq.{take-length}
+use Rattle.std.proofs.lemmas.List.{take_more, take_more_set}
 use lib.Ieee.{Float}
 use Rattle.rows.specs.declared.Row.{Row}
 use Rattle.rows.specs.Rows.{zeros, rows_of, flat_of, row_at}
@@ -16,25 +12,13 @@ use Rattle.solve.specs.declared.Outcome.{Outcome}
 use Rattle.solve.specs.Solve.{solve}
 use Rattle.lent.specs.Lent.{solve_rows}
 
-first : List Row → Row
-first [] = zeros
-first (r ∷ rs) = r
-
-others : List Row → List Row
-others [] = []
-others (r ∷ rs) = rs
-
 -- where the first i rows are those of `from`, so are the first i + 1 once row i is set
-next_of : (from to : List Row) (i : ℕ) → i < length from → i < length to → take i to ≡ take i from → take (suc i) (set to i (row_at from i)) ≡ take (suc i) from
-unfolding row_at first others
-next_of [] to i h k e = absurd (omega arith)
-next_of (r ∷ from) [] i h k e = absurd (omega arith)
-next_of (r ∷ from) (s ∷ to) zero h k e = refl
-next_of (r ∷ from) (s ∷ to) (suc i) h k e = ap {B = List Row} (λ p. p ∷ take (suc i) (set to i (row_at from i))) (ap first e)
-    ∙ ap {B = List Row} (λ l. r ∷ l) (next_of from to i (omega arith) (omega arith) (ap others e))
-
 pub next : (from to : List Row) (i : ℕ) → i < length from → i < length to → take i to ≡ take i from → take (i + 1) (set to i (row_at from i)) ≡ take (i + 1) from
-next from to i h k e = rw (add-one i) (next_of from to i h k e)
+unfolding row_at
+next from to i h k e =
+    take_more_set to i (get_or from i zeros) k
+    ∙ (ap {B = List Row} (λ (l : List Row). l ++ get_or from i zeros ∷ []) e
+    ∙ sym (take_more from i zeros h))
 
 -- the rows of the first floats are the first rows
 first_rows : (flat : List Float) (n : ℕ) → 3 * n ≤ length flat → rows_of (take (3 * n) flat) ≡ take n (rows_of flat)

@@ -1,6 +1,5 @@
 -- The contracts of the public entries leave no choice: whatever two results and exit states they allow of one call, the results are equal, and so are the
--- records and the floats that are lent. A walked function's contract is read as the logic has it: what it ensures of the one beside what it ensures of the
--- other.
+-- records and the floats that are lent. A contract is read as the logic has it: what it ensures of the one beside what it ensures of the other.
 use mathlib.Core.Path.{◌≡◌, sym, ◌∙◌}
 use mathlib.Core.List.{List}
 use lib.Ieee.{Float}

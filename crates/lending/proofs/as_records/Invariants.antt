@@ -1,0 +1,11 @@
+-- `lending::as_records` is safe and ends.
+use Prim.Native.Nat.{◌+◌, ◌-◌, ◌≤◌}
+use borrow.Author.Rules.{rules}
+use Rattle.rows.specs.Constants.{most_rows}
+use Rattle.lending.proofs.as_records.Given as goal
+
+abbrev pub invariant-loop-k : goal.invariant-loop-k
+invariant-loop-k l = l.k ≤ most_rows + 1
+
+abbrev pub decreases-loop-k : goal.decreases-loop-k
+decreases-loop-k l = most_rows + 1 - l.k
