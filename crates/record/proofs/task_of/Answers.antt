@@ -22,4 +22,13 @@ float_at-requires-4 c = omega arith
 
 pub returns : goal.returns
 unfolding task
-returns c = cc
+returns c =
+    rw (
+      ← c.normalize_byte.ensures,
+      ← c.mode_of-mode.ensures,
+      ← c.float_at.ensures,
+      ← c.float_at-2.ensures,
+      ← c.float_at-3.ensures,
+      ← c.float_at-4.ensures,
+      ← c.le64.ensures,
+    )
