@@ -56,7 +56,8 @@ module _ (kind length : ℕ) where
   many = ltb record_rows ((length - field_bytes) / row_bytes)
 
   module _ (byte : ℕ) where
-    pub solved-length : refusal kind length byte ≡ 0 → (field_bytes ≤ length) × ((length - field_bytes) % row_bytes ≡ 0) × (length - field_bytes ≤ 8 * most_floats)
+    pub solved-length : refusal kind length byte ≡ 0
+        → (field_bytes ≤ length) × ((length - field_bytes) % row_bytes ≡ 0) × (length - field_bytes ≤ 8 * most_floats)
     unfolding refusal most_floats row_bytes
     solved-length e =
         let passed = was_0 other_kind (other_length || ltb 1 byte) many e in

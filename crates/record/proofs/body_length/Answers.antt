@@ -1,5 +1,4 @@
 -- `record::body_length` meets its contract.
-use borrow.Author.Rules.{rules}
 use Rattle.record.specs.Record.{body_length}
 use Rattle.record.proofs.body_length.Goals as goal
 

@@ -1,5 +1,4 @@
 -- `record::kind_of` meets its contract.
-use borrow.Author.Rules.{rules}
 use Rattle.record.specs.Record.{kind}
 use Rattle.record.proofs.kind_of.Goals as goal
 

@@ -1,7 +1,6 @@
 -- `record::le16` meets its contract.
 use Prim.Native.Nat.{◌+◌}
 use native.Mathlib.Omega.{arith}
-use borrow.Author.Rules.{rules}
 use Rattle.record.proofs.Bytes.{field_split, field-one}
 use Rattle.record.proofs.le16.Goals as goal
 

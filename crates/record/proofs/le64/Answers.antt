@@ -1,6 +1,5 @@
 -- `record::le64` meets its contract.
 use native.Mathlib.Omega.{arith}
-use borrow.Author.Rules.{rules}
 use Rattle.record.proofs.Bytes.{field_split, behind, field_behind}
 use Rattle.record.proofs.le64.Goals as goal
 

@@ -1,5 +1,4 @@
 -- `record::normalize_byte` meets its contract.
-use borrow.Author.Rules.{rules}
 use Rattle.record.specs.Record.{normalize_byte}
 use Rattle.record.proofs.Bytes.{field-one}
 use Rattle.record.proofs.normalize_byte.Goals as goal

@@ -1,5 +1,4 @@
 -- `text::glyph` meets its contract.
-use borrow.Author.Rules.{rules}
 use borrow.Author.Tests.{lt-ltb, le-ltb}
 use Rattle.float.specs.Operators.{if◌then◌else◌}
 use Rattle.text.specs.Text.{glyph}

@@ -1,11 +1,10 @@
 -- `text::put` meets its contract. The loop's invariant: the first i bytes of the text are copied.
 use mathlib.Core.Path.{◌≡◌, ◌∙◌}
-use Prim.Native.Nat.{◌-◌, ◌≤◌}
 use native.Mathlib.Omega.{arith}
 use native.Mathlib.Numerals.{add-one}
 use borrow.Author.Rules.{rules}
 use lib.ListN.{length, length-set}
-use lib.Seq.{paste, paste-zero, paste-suc}
+use lib.Seq.{paste-suc}
 use Rattle.text.proofs.Written.{copied_all}
 use Rattle.text.proofs.put.Goals as goal
 

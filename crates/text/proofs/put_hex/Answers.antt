@@ -1,12 +1,11 @@
 -- `text::put_hex` meets its contract. The loop's invariant: the first i digits are copied, and what is left gives the others.
 use mathlib.Core.Path.{◌≡◌, refl, ◌∙◌}
-use Prim.Native.Nat.{◌-◌, ◌^◌, ◌≤◌, ◌<◌}
 use native.Mathlib.Omega.{arith}
 use native.Mathlib.Numerals.{add-one}
 use borrow.Author.Rules.{rules}
-use lib.ListN.{length, drop, length-set}
-use lib.Seq.{paste, paste-zero, paste-suc}
-use Rattle.text.specs.Text.{hex_from, hex}
+use lib.ListN.{length, length-set}
+use lib.Seq.{paste-zero, paste-suc}
+use Rattle.text.specs.Text.{hex}
 use Rattle.text.proofs.Written.{copied_all}
 use Rattle.text.proofs.Hex.{hex-length, next_digit, next_rest}
 use Rattle.text.proofs.put_hex.Goals as goal
@@ -29,11 +28,7 @@ loop-i-preserved c =
     )
 
 pub returns-clause-end : goal.returns-clause-end
-returns-clause-end c =
-    let l = c.loop-i in
-    let a = c.args in
-    let all : l.i ≡ length (hex a.n) = omega (arith, hex-length a.n) in
-    omega (arith, hex-length a.n)
+returns-clause-end c = omega (arith, hex-length c.args.n)
 
 pub returns-clause-out : goal.returns-clause-out
 returns-clause-out c =

@@ -1,13 +1,11 @@
 -- `text::spell` meets its contract. The loop's invariant: the digits of what is left, and behind them those spelled, are the number's.
 use mathlib.Core.Path.{◌≡◌}
-use mathlib.Core.List.{◌++◌}
-use Prim.Native.Nat.{◌+◌, ◌*◌, ◌-◌, ◌%◌, ◌^◌, ◌≤◌, ◌<◌}
+use Prim.Native.Nat.{◌+◌, ◌*◌, ◌-◌, ◌%◌, ◌<◌}
 use native.Mathlib.Omega.{arith}
 use native.Mathlib.Numerals.{add-one}
 use borrow.Author.Rules.{rules}
-use lib.ListN.{length, drop, length-set}
+use lib.ListN.{length-set}
 use Rattle.text.specs.Sizes.{longest_decimal}
-use Rattle.text.specs.Text.{decimal_within, decimal}
 use Rattle.text.proofs.Decimal.{none_spelled, place_left, one_more_spelled, all_spelled}
 use Rattle.text.proofs.spell.Goals as goal
 
