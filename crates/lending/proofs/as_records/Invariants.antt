@@ -1,6 +1,5 @@
 -- `lending::as_records` is safe and ends.
 use Prim.Native.Nat.{◌+◌, ◌-◌, ◌≤◌}
-use borrow.Author.Rules.{rules}
 use Rattle.rows.specs.Constants.{most_rows}
 use Rattle.lending.proofs.as_records.Given as goal
 

@@ -1,6 +1,5 @@
 -- `lending::same_rows` is safe and ends.
 use Prim.Native.Nat.{◌+◌, ◌-◌, ◌≤◌}
-use borrow.Author.Rules.{rules}
 use Rattle.rows.specs.Constants.{most_rows}
 use Rattle.lending.proofs.same_rows.Given as goal
 
