@@ -1,7 +1,7 @@
 -- What the entries of the static library make of the records that C hands them, and what they leave in the rows lent to them. Assumes nothing.
 use Rattle.std.specs.Prelude.{ℕ, Bool, not, List, eqb, ltb, Float}
 use Rattle.std.specs.Float.{nan}
-use Rattle.float.specs.Operators.{if◌then◌else◌}
+use Rattle.float.specs.Operators.{when◌then◌else◌}
 use Rattle.rows.specs.declared.Row.{Row}
 use Rattle.rows.specs.Rows.{rows_of, flat_of}
 use Rattle.active.specs.declared.Active.{Active}
@@ -32,7 +32,7 @@ task t =
     record {
       tol = record { feasibility = t.feasibility; scale = t.scale };
       start = record { x = t.x0; y = t.y0; skip = t.skip };
-      normalize = if eqb t.normalize 0 then Off else Source;
+      normalize = when eqb t.normalize 0 then Off else Source;
     }
 
 -- no mode of normalising has this number: 0 is Off, 1 the source's
@@ -41,7 +41,7 @@ no_mode number = ltb 1 number
 
 -- a refusal; where there is none (0), 10 for a number that names no mode
 unfoldable pub or_ten : ℕ → ℕ → ℕ
-or_ten number mode = if not (eqb number 0) then number else if no_mode mode then 10 else 0
+or_ten number mode = when not (eqb number 0) then number else when no_mode mode then 10 else 0
 
 -- which refusal an input gets before a row is read, and 0 where it gets none: the solve's own, 1 or 2, and then 10 (RULES 10.5)
 unfoldable pub refusal_of : SolveTask → List Float → ℕ
@@ -51,7 +51,7 @@ refusal_of t flat = or_ten (Solve.refusal_of (task t) flat) t.normalize
 unfoldable pub unless_refused : SolveTask → List Float → Ended (List Float) → Ended (List Float)
 unless_refused t flat e =
     let number = refusal_of t flat in
-    if eqb number 0 then e else record { outcome = Refused number; rows = flat }
+    when eqb number 0 then e else record { outcome = Refused number; rows = flat }
 
 unfoldable pub solving : SolveTask → List Float → Ended (List Float)
 solving t flat = unless_refused t flat (solve (task t) t.allowance flat)

@@ -1,6 +1,6 @@
 -- What the entries over a lent record and over a slice of row records answer, refuse and leave, by value.
 use Rattle.std.specs.Prelude.{ℕ, ltb}
-use Rattle.float.specs.Operators.{if◌then◌else◌}
+use Rattle.float.specs.Operators.{when◌then◌else◌}
 use Rattle.rows.specs.Constants.{most_rows}
 use Rattle.active.specs.declared.Active.{Active}
 use Rattle.active.specs.declared.Collector.TheVariants.{On}
@@ -31,4 +31,4 @@ few_rows = 64
 
 -- the refusal of n rows, by its number; 0 where they are taken
 unfoldable pub too_many : ℕ → ℕ
-too_many n = if ltb most_rows n then 2 else 0
+too_many n = when ltb most_rows n then 2 else 0

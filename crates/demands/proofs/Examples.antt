@@ -5,7 +5,7 @@ use mathlib.Core.Bool.{Bool, true, false}
 use mathlib.Core.List.{List, [], ◌∷◌}
 use Prim.Native.Nat.{ℕ, ◌^◌}
 use lib.Ieee.{Float, nan, binary64, round, of_bits, neg, add, sub, mul, div, lt, le, eq, is_nan}
-use Rattle.float.specs.Operators.{if◌then◌else◌}
+use Rattle.float.specs.Operators.{when◌then◌else◌}
 use Rattle.float.specs.Float.{zero, one, abs, finite, negative, ◌⋖◌, min, max, clamp}
 use Rattle.rounding.specs.Root.{root, root_units, whole_root}
 use Rattle.rounding.specs.Fused.{fused, product}
@@ -139,7 +139,7 @@ a ⊹ b = (a, b)
 
 pub examples_hold : All examples
 unfolding
-    if◌then◌else◌ zero one abs finite negative ◌⋖◌ min max clamp root root_units whole_root fused product pure read ◌>>=◌ ◌>>◌ eps_zero eps_normalize eps_rounding
+    when◌then◌else◌ zero one abs finite negative ◌⋖◌ min max clamp root root_units whole_root fused product pure read ◌>>=◌ ◌>>◌ eps_zero eps_normalize eps_rounding
     ccw_errbound_a lp_bound lp_box_growth half repair_tol_scale zeros rows_of flat_of row_at refusal residual weight no_boundary normalized_by normalized_row
     normalized determinant singular crossing no_rows set_first set_second whole_line void coefficient_is_zero narrow meeting lp1d_core on_y on_x on_line pairs_of
     lp1d onward ◌>>?◌ steep_end steep_step uncrossed chosen flat_end flat_step step every meets not_above works first_that_works bounded cut interval

@@ -9,7 +9,7 @@ use native.Mathlib.Omega.{arith}
 use borrow.Author.Tests.{eq-eqb, ne_eqb}
 use lib.Dec.{eqb}
 use lib.Ieee.{Float}
-use Rattle.float.specs.Operators.{if◌then◌else◌, ◌⊗◌}
+use Rattle.float.specs.Operators.{when◌then◌else◌, ◌⊗◌}
 use Rattle.rows.specs.Constants.{lp_bound, lp_box_growth, lp_box_growth_steps}
 use Rattle.rows.specs.declared.Row.{Row}
 use Rattle.once.specs.declared.Task.{Task}
@@ -31,7 +31,7 @@ looping zero step T rows bound = unreachable
 looping (suc n) step T rows bound =
     let o = once T rows bound in
     let more = looping n (suc step) T o.rows.value (bound ⊗ lp_box_growth) in
-    if not o.saturated || eqb step lp_box_growth_steps then returned o else more
+    when not o.saturated || eqb step lp_box_growth_steps then returned o else more
 
 -- `0..=LP_BOX_GROWTH_STEPS`
 unfoldable pub loop : Task → List Row → Left
@@ -40,7 +40,7 @@ loop T rows = looping (lp_box_growth_steps + 1) 0 T rows lp_bound
 -- from any step on, with the growths that it leaves
 from_step : (T : Task) (k step : ℕ) (rows : List Row) (bound : Float) → k + step ≡ lp_box_growth_steps
     → looping (suc k) step T rows bound ≡ returned (last_of (solves k T rows bound))
-unfolding looping last_of if◌then◌else◌
+unfolding looping last_of when◌then◌else◌
 from_step T zero step rows bound e =
     rw (eq-eqb step lp_box_growth_steps (omega arith), or-true (not (once T rows bound).saturated), ends T rows bound 0 (inl refl))
 from_step T (suc k) step rows bound e =

@@ -5,7 +5,7 @@ use mathlib.Core.List.{List}
 use Prim.Native.Nat.{ℕ, ◌≤◌}
 use lib.ListN.{length, drop, drop_of_length-le}
 use lib.Ieee.{Float}
-use Rattle.float.specs.Operators.{if◌then◌else◌, ◌⊗◌, ◌≻◌, ◌≈◌}
+use Rattle.float.specs.Operators.{when◌then◌else◌, ◌⊗◌, ◌≻◌, ◌≈◌}
 use Rattle.float.specs.Float.{abs, finite, max}
 use Rattle.readings.specs.Readings.{pure}
 use Rattle.rows.specs.Constants.{lp_bound, lp_box_growth}
@@ -29,12 +29,12 @@ module _ (start : WarmStart) (bound : Float) where
   -- a finite start outside the box sets the box to 1e3 times its larger coordinate in absolute value
   pub outside_widens : finite start.x && finite start.y && (abs start.x ≻ bound || abs start.y ≻ bound) ≡ true
       → widened start bound ≡ lp_box_growth ⊗ max (abs start.x) (abs start.y)
-  unfolding widened if◌then◌else◌
+  unfolding widened when◌then◌else◌
   outside_widens h = rw h
 
   -- a start with y exactly 1e6 moves up to a larger box
   pub moves_up : start.y ≈ lp_bound && bound ≻ lp_bound ≡ true → begun start bound ≡ record { x = start.x; y = bound }
-  unfolding begun if◌then◌else◌
+  unfolding begun when◌then◌else◌
   moves_up h = rw h
 
 -- a solve that fails gives nothing, and no active rows

@@ -6,7 +6,7 @@ use mathlib.Core.List.{List, [], ◌∷◌}
 use Prim.Native.Nat.{ℕ}
 use native.Mathlib.Omega.{arith}
 use lib.Ieee.{Float, nan, inf, is_nan}
-use Rattle.float.specs.Operators.{if◌then◌else◌, ◌⊘◌, ◌≺◌, ◌≻◌}
+use Rattle.float.specs.Operators.{when◌then◌else◌, ◌⊘◌, ◌≺◌, ◌≻◌}
 use Rattle.float.specs.Float.{abs}
 use Rattle.float.proofs.Nans.{one_nan}
 use Rattle.readings.specs.Readings.{pure, read, ◌>>◌}
@@ -44,7 +44,7 @@ module _ (s : State) where
       × (is_nan x ≡ true → is_nan y ≡ false → answer (Done s) ≡ AnswerIs.Level y)
       × (is_nan x ≡ false → is_nan y ≡ true → answer (Done s) ≡ AnswerIs.Across x)
       × (is_nan x ≡ true → is_nan y ≡ true → answer (Done s) ≡ AnswerIs.Nothing)
-  unfolding answer if◌then◌else◌
+  unfolding answer when◌then◌else◌
   four_answers = (λ p q. rw (p, q), λ p q. rw (p, q), λ p q. rw (p, q), λ p q. rw (p, q))
 
   -- so what it has not is NaN
@@ -95,7 +95,7 @@ has_numbers T A flat =
 -- ---- no row, and one
 
 pub no_row : (T : Task) → lp2d_incre_max_y T [] ≡ record { outcome = Answered AnswerIs.Nothing no_rows 0; rows = [] }
-unfolding lp2d_incre_max_y finished answered answer active_rows all_solves solves last_of once count pure rows_of flat_of if◌then◌else◌
+unfolding lp2d_incre_max_y finished answered answer active_rows all_solves solves last_of once count pure rows_of flat_of when◌then◌else◌
 no_row T = takes T (finished T) [] ((refusal_0 T []).1 (omega arith, omega arith))
 
 module _ (T : Task) (a b c : Float) where
@@ -103,19 +103,19 @@ module _ (T : Task) (a b c : Float) where
   row = record { a = a; b = b; c = c }
 
   one_row : lp2d_incre_max_y T (a ∷ b ∷ c ∷ []) ≡ record { outcome = Answered (answer (lone row)) (active_rows (lone row)) 1; rows = a ∷ b ∷ c ∷ [] }
-  unfolding lp2d_incre_max_y finished answered all_solves solves last_of once count pure read ◌>>◌ rows_of flat_of if◌then◌else◌
+  unfolding lp2d_incre_max_y finished answered all_solves solves last_of once count pure read ◌>>◌ rows_of flat_of when◌then◌else◌
   one_row = takes T (finished T) (a ∷ b ∷ c ∷ []) ((refusal_0 T (a ∷ b ∷ c ∷ [])).1 (omega arith, omega arith))
 
   pub one_row_level : abs a ≺ eps_zero ≡ true → b ≻ eps_zero ≡ true
       → (bounds : Answer)
       × (lp2d_incre_max_y T (a ∷ b ∷ c ∷ []) ≡ record { outcome = Answered bounds no_rows 1; rows = a ∷ b ∷ c ∷ [] })
       × (values bounds ≡ record { x = nan; y = c ⊘ b })
-  unfolding lone active_rows if◌then◌else◌
+  unfolding lone active_rows when◌then◌else◌
   one_row_level p q =
       let found : State = record { at = record { x = nan; y = c ⊘ b }; active = no_rows } in
       (answer (Done found), one_row ∙ rw (p, q), values_found found)
 
   pub one_row_nothing : abs a ≺ eps_zero && b ≻ eps_zero ≡ false
       → lp2d_incre_max_y T (a ∷ b ∷ c ∷ []) ≡ record { outcome = Answered AnswerIs.Nothing no_rows 1; rows = a ∷ b ∷ c ∷ [] }
-  unfolding lone answer active_rows if◌then◌else◌
+  unfolding lone answer active_rows when◌then◌else◌
   one_row_nothing p = one_row ∙ rw p

@@ -4,7 +4,7 @@ use mathlib.Core.Logic.{◌⊎◌, inl, inr, ⊎_elim}
 use mathlib.Core.Bool.{Bool, true, false}
 use lib.Dec.{T}
 use lib.Ieee.{Float, nan, binary64, lt, eq, neg, is_nan, fits, of_bits}
-use Rattle.float.specs.Operators.{if◌then◌else◌}
+use Rattle.float.specs.Operators.{when◌then◌else◌}
 use Rattle.float.specs.Float.{zero, negative, ◌⋖◌, ◌⋗◌, min, max, Picks}
 use Rattle.float.proofs.Laws.{below_orders, above_orders, min_picks, max_picks, no_choice, commutative}
 
@@ -38,11 +38,11 @@ unfolding ◌⋖◌ negative lt eq neg zero of_bits
 zeros-ordered = (refl, refl)
 
 pub least_zero : (min zero (neg zero) ≡ neg zero) × (min (neg zero) zero ≡ neg zero)
-unfolding min if◌then◌else◌ is_nan ◌⋖◌ negative lt eq neg zero of_bits
+unfolding min when◌then◌else◌ is_nan ◌⋖◌ negative lt eq neg zero of_bits
 least_zero = (refl, refl)
 
 pub greatest_zero : (max zero (neg zero) ≡ zero) × (max (neg zero) zero ≡ zero)
-unfolding max if◌then◌else◌ is_nan ◌⋖◌ negative lt eq neg zero of_bits
+unfolding max when◌then◌else◌ is_nan ◌⋖◌ negative lt eq neg zero of_bits
 greatest_zero = (refl, refl)
 
 -- ---- so nothing is left open, and the order of the two does not matter

@@ -8,7 +8,7 @@ use native.Mathlib.Omega.{arith}
 use borrow.Author.Tests.{le-ltb}
 use lib.Dec.{T}
 use lib.Ieee.{Float, nan, inf, fin, binary64, up, down, lt, is_nan, fits, of_bits}
-use Rattle.float.specs.Operators.{if◌then◌else◌, ◌≺◌, ◌≈◌}
+use Rattle.float.specs.Operators.{when◌then◌else◌, ◌≺◌, ◌≈◌}
 use Rattle.float.specs.Float.{zero, abs, finite, negative, ◌⋖◌, ◌⋗◌, min, max, Picks}
 use Rattle.float.proofs.Nans.{one_nan}
 use Rattle.float.proofs.Order.{not_both, refuted, carries_over}
@@ -35,11 +35,11 @@ above_orders = record {
 
 -- what min and max share: the right one where the left one is NaN or the right one comes before it
 unfoldable pick : (Float → Float → Bool) → Float → Float → Float
-pick before x y = if is_nan x || before y x then y else x
+pick before x y = when is_nan x || before y x then y else x
 
 module _ {before : Float → Float → Bool} (orders : Orders before) where
   past_nan_right : (x : Float) → pick before x nan ≡ x
-  unfolding pick is_nan if◌then◌else◌
+  unfolding pick is_nan when◌then◌else◌
   past_nan_right nan = refl
   past_nan_right (inf s) = rw (orders.nan_before_none (inf s))
   past_nan_right (fin s m e) = rw (orders.nan_before_none (fin s m e))
@@ -48,16 +48,16 @@ module _ {before : Float → Float → Bool} (orders : Orders before) where
   not_itself x = refuted (λ (h : before x x ≡ true). not_both (orders.one_way x x h) h)
 
   none_before : (x y : Float) → (before x (pick before x y) ≡ false) × (before y (pick before x y) ≡ false)
-  unfolding pick if◌then◌else◌
+  unfolding pick when◌then◌else◌
   none_before x y = by_tests (is_nan x) (before y x) refl refl
     where
-      by_tests : (n b : Bool) → is_nan x ≡ n → before y x ≡ b → let z = if n || b then y else x in (before x z ≡ false) × (before y z ≡ false)
+      by_tests : (n b : Bool) → is_nan x ≡ n → before y x ≡ b → let z = when n || b then y else x in (before x z ≡ false) × (before y z ≡ false)
       by_tests true b n t = (rw (one_nan x n) (orders.nan_before_none y), not_itself y)
       by_tests false true n t = (orders.one_way y x t, not_itself y)
       by_tests false false n t = (not_itself x, t)
 
   picks : Picks before (pick before)
-  unfolding pick is_nan if◌then◌else◌
+  unfolding pick is_nan when◌then◌else◌
   picks = record {
     past_nan_left = λ y. refl;
     past_nan_right = past_nan_right;
@@ -65,7 +65,7 @@ module _ {before : Float → Float → Bool} (orders : Orders before) where
     none_before = none_before;
   }
     where
-      one_of_two : (b : Bool) (x y : Float) → ((if b then y else x) ≡ x) ⊎ ((if b then y else x) ≡ y)
+      one_of_two : (b : Bool) (x y : Float) → ((when b then y else x) ≡ x) ⊎ ((when b then y else x) ≡ y)
       one_of_two true x y = inr refl
       one_of_two false x y = inl refl
 
@@ -129,13 +129,13 @@ pub above_no_size : (r s : Float) → lt s zero ≡ false → lt zero r ≡ fals
 above_no_size r s h k = refuted (λ (above : lt s r ≡ true). not_both k (above_size r s h above))
 
 -- no size is a -0, so a comparison takes the larger of a size and any number
-pub larger_size : (x y : Float) → finite x ≡ true → max (abs x) y ≡ (if abs x ≺ y then y else abs x)
+pub larger_size : (x y : Float) → finite x ≡ true → max (abs x) y ≡ (when abs x ≺ y then y else abs x)
 unfolding finite max abs is_nan negative ◌⋖◌
 larger_size nan y h = absurd (false≢true h)
 larger_size (inf s) y h = absurd (false≢true h)
 larger_size (fin s m e) y h = by_tests (fin false m e ≺ y) (fin false m e ≈ y)
   where
-    by_tests : (p q : Bool) → (if p || q && false then y else fin false m e) ≡ (if p then y else fin false m e)
+    by_tests : (p q : Bool) → (when p || q && false then y else fin false m e) ≡ (when p then y else fin false m e)
     by_tests true q = refl
     by_tests false true = refl
     by_tests false false = refl

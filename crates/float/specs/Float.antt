@@ -2,7 +2,7 @@
 use Rattle.std.specs.Prelude.{◌≡◌, ◌⊎◌, Bool, true, false, not, ◌&&◌, ◌||◌, Float}
 use Rattle.std.specs.Float.{nan, inf, fin, binary64}
 use Rattle.std.specs.Float.Ieee.{is_nan, of_bits}
-use Rattle.float.specs.Operators.{if◌then◌else◌, ◌≺◌, ◌≻◌, ◌≈◌}
+use Rattle.float.specs.Operators.{when◌then◌else◌, ◌≺◌, ◌≻◌, ◌≈◌}
 
 infix 50 ◌⋖◌ ◌⋗◌
 unfoldable pub zero : Float
@@ -39,14 +39,14 @@ x ⋗ y = y ⋖ x
 
 -- its minimumNumber and maximumNumber: the lesser and the greater of two numbers, and a number beats a NaN
 unfoldable pub min : Float → Float → Float
-min x y = if is_nan x || y ⋖ x then y else x
+min x y = when is_nan x || y ⋖ x then y else x
 
 unfoldable pub max : Float → Float → Float
-max x y = if is_nan x || y ⋗ x then y else x
+max x y = when is_nan x || y ⋗ x then y else x
 
 -- two comparisons, the lower bound's first, the other on what that one left. A NaN stays, whatever the bounds are
 unfoldable pub clamp : Float → Float → Float → Float
-clamp x low high = let raised = if x ≺ low then low else x in if raised ≻ high then high else raised
+clamp x low high = let raised = when x ≺ low then low else x in when raised ≻ high then high else raised
 
 -- The standard's sentence on min, with _⋖_, and on max, with _⋗_, and all that a caller may use of them: where one of the two is NaN the other one,
 -- so that two NaN give NaN; else one of the two that neither comes before.

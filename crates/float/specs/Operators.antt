@@ -6,10 +6,10 @@ use Rattle.std.specs.Float.Ieee.{add, sub, mul, div, lt, le, eq}
 infixl 70 ◌⊗◌ ◌⊘◌
 infixl 60 ◌⊕◌ ◌⊖◌
 infix 50 ◌≺◌ ◌≼◌ ◌≻◌ ◌≈◌
-infix 20 if◌then◌else◌
-unfoldable pub if◌then◌else◌ : {A : Type 0} → Bool → A → A → A
-if◌then◌else◌ true x y = x
-if◌then◌else◌ false x y = y
+infix 20 when◌then◌else◌
+unfoldable pub when◌then◌else◌ : {A : Type 0} → Bool → A → A → A
+when◌then◌else◌ true x y = x
+when◌then◌else◌ false x y = y
 
 -- + - * /, each rounded once
 abbrev pub ◌⊕◌ : Float → Float → Float

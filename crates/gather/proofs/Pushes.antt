@@ -11,7 +11,7 @@ use lib.ListN.{length, take, drop, set, length-set, length-drop, take-append-dro
 use lib.Seq.{length-take-le, sets}
 use lib.Ieee.{Float, binary64, of_bits}
 use borrow.Author.Tests.{eq-eqb, ne_eqb}
-use Rattle.float.specs.Operators.{if◌then◌else◌}
+use Rattle.float.specs.Operators.{when◌then◌else◌}
 use Rattle.record.specs.Bytes.{little, field, float, floats}
 use Rattle.gather.specs.Gather.{pushed, rows_in, word_all, rows_all}
 use Rattle.gather.proofs.Choice.{either}
@@ -46,20 +46,20 @@ length-rows_in before word b rows =
 
 pub rows_in_eighth : (before word b : ℕ) (rows : List Float) → before % 8 ≡ 7
     → rows_in before word b rows ≡ set rows (before / 8) (of_bits binary64 (pushed before word b))
-unfolding rows_in if◌then◌else◌
+unfolding rows_in when◌then◌else◌
 rows_in_eighth before word b rows eighth = rw (eq-eqb (before % 8) 7 eighth)
 
 pub rows_in_other : (before word b : ℕ) (rows : List Float) → (before % 8 ≡ 7 → ⊥) → rows_in before word b rows ≡ rows
-unfolding rows_in if◌then◌else◌
+unfolding rows_in when◌then◌else◌
 rows_in_other before word b rows other = rw (ne_eqb (before % 8) 7 other)
 
 -- the first drops the word of the float before
 pushed_first : (at word b : ℕ) → pushed (8 * at) word b ≡ b * 2 ^ 56
-unfolding pushed if◌then◌else◌
+unfolding pushed when◌then◌else◌
 pushed_first at word b = rw (eq-eqb (8 * at % 8) 0 (omega arith)) (omega arith)
 
 pushed_later : (at j word b : ℕ) → 0 < j → j < 8 → pushed (8 * at + j) word b ≡ word / 256 + b * 2 ^ 56
-unfolding pushed if◌then◌else◌
+unfolding pushed when◌then◌else◌
 pushed_later at j word b later within = rw (ne_eqb ((8 * at + j) % 8) 0 (λ e. omega arith))
 
 -- ---- the bytes of a float from its byte j on

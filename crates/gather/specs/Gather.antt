@@ -2,17 +2,17 @@
 use Rattle.std.specs.Prelude.{ℕ, ◌+◌, ◌*◌, ◌/◌, ◌%◌, ◌^◌, List, [], ◌∷◌, eqb, set, Float}
 use Rattle.std.specs.Float.{binary64}
 use Rattle.std.specs.Float.Ieee.{of_bits}
-use Rattle.float.specs.Operators.{if◌then◌else◌}
+use Rattle.float.specs.Operators.{when◌then◌else◌}
 
 -- ---- a byte of rows, behind `before` others
 
 -- the bytes of its float so far as a number, the latest on top: with the eighth, the lowest byte is the first
 unfoldable pub pushed : ℕ → ℕ → ℕ → ℕ
-pushed before word b = (if eqb (before % 8) 0 then 0 else word / 256) + b * 2 ^ 56
+pushed before word b = (when eqb (before % 8) 0 then 0 else word / 256) + b * 2 ^ 56
 
 -- with its eighth byte a float is there
 unfoldable pub rows_in : ℕ → ℕ → ℕ → List Float → List Float
-rows_in before word b rows = if eqb (before % 8) 7 then set rows (before / 8) (of_bits binary64 (pushed before word b)) else rows
+rows_in before word b rows = when eqb (before % 8) 7 then set rows (before / 8) (of_bits binary64 (pushed before word b)) else rows
 
 -- ---- bytes, one after the other
 

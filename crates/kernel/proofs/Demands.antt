@@ -10,7 +10,7 @@ use native.Mathlib.Omega.{arith}
 use borrow.Author.Tests.{eqb-true, lt-ltb, ltb-true}
 use lib.Dec.{eqb, ltb}
 use lib.Ieee.{Float}
-use Rattle.float.specs.Operators.{if◌then◌else◌}
+use Rattle.float.specs.Operators.{when◌then◌else◌}
 use Rattle.readings.proofs.Gives.{either}
 use Rattle.rows.specs.declared.Row.{Row}
 use Rattle.rows.specs.Rows.{flat_of}
@@ -77,11 +77,11 @@ module _ (t : SolveTask) (flat : List Float) where
   Ten = (own ≡ 0) × (1 < t.normalize)
 
   ten_is : refusal_of t flat ≡ 10 ↔ Ten
-  unfolding refusal_of or_ten no_mode if◌then◌else◌
+  unfolding refusal_of or_ten no_mode when◌then◌else◌
   ten_is = (by_tests (eqb own 0) (ltb 1 t.normalize) refl refl, λ h. rw (h.0, lt-ltb 1 t.normalize h.1))
     where
       by_tests : (none ten : Bool) → eqb own 0 ≡ none → ltb 1 t.normalize ≡ ten
-          → (if not none then own else if ten then 10 else 0) ≡ 10 → Ten
+          → (when not none then own else when ten then 10 else 0) ≡ 10 → Ten
       by_tests true true p q e = (eqb-true own 0 p, ltb-true 1 t.normalize q)
       by_tests true false p q e = absurd (omega arith)
       by_tests false ten p q e = absurd (omega (arith, unsolved_by.no_other (task t) flat))
@@ -91,10 +91,10 @@ module _ (t : SolveTask) (flat : List Float) where
 
   exactly : (e : Ended (List Float)) → number e.outcome < 4
       → (number (unless_refused t flat e).outcome ≡ 10 ↔ Ten) × (Ten → (unless_refused t flat e).rows ≡ flat)
-  unfolding unless_refused if◌then◌else◌ number
+  unfolding unless_refused when◌then◌else◌ number
   exactly e below = ((λ h. ten_is.0 (by_test (eqb (refusal_of t flat) 0) refl h), λ h. rw (ten_is.1 h)), λ h. rw (ten_is.1 h))
     where
-      by_test : (b : Bool) → eqb (refusal_of t flat) 0 ≡ b → number (if b then e else as_it_was).outcome ≡ 10 → refusal_of t flat ≡ 10
+      by_test : (b : Bool) → eqb (refusal_of t flat) 0 ≡ b → number (when b then e else as_it_was).outcome ≡ 10 → refusal_of t flat ≡ 10
       by_test true p h = absurd (omega (arith, below))
       by_test false p h = h
 

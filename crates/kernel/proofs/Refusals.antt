@@ -8,7 +8,7 @@ use borrow.Author.Tests.{eqb-false}
 use lib.Dec.{eqb}
 use lib.ListN.{length}
 use lib.Ieee.{Float}
-use Rattle.float.specs.Operators.{if◌then◌else◌}
+use Rattle.float.specs.Operators.{when◌then◌else◌}
 use Rattle.rows.specs.declared.Row.{Row}
 use Rattle.rows.specs.Rows.{flat_of, refusal}
 use Rattle.rows.proofs.Lengths.{length-flat_of}
@@ -29,7 +29,7 @@ module _ (t : SolveTask) (flat : List Float) where
   refused = record { outcome = Refused (refusal_of t flat); rows = flat }
 
   with_no_mode : (e : Ended (List Float)) → no_mode t.normalize ≡ true → unless_refused t flat e ≡ refused
-  unfolding unless_refused refusal_of if◌then◌else◌
+  unfolding unless_refused refusal_of when◌then◌else◌
   with_no_mode e h = rw (some_refusal (Solve.refusal_of (task t) flat) t.normalize h)
 
   pub solving_refuses : no_mode t.normalize ≡ true → solving t flat ≡ refused
@@ -46,10 +46,10 @@ module _ (t : SolveTask) (flat : List Float) where
 
   with_a_mode : (e : Ended (List Float)) → (own_refusal ≢ 0 → e ≡ record { outcome = Refused own_refusal; rows = flat })
       → no_mode t.normalize ≡ false → unless_refused t flat e ≡ e
-  unfolding unless_refused refusal_of if◌then◌else◌
+  unfolding unless_refused refusal_of when◌then◌else◌
   with_a_mode e refuses h = rw (same_refusal own_refusal t.normalize h) (by_test (eqb own_refusal 0) refl)
     where
-      by_test : (b : Bool) → eqb own_refusal 0 ≡ b → ◌≡◌ {A = Ended (List Float)} (if b then e else record { outcome = Refused own_refusal; rows = flat }) e
+      by_test : (b : Bool) → eqb own_refusal 0 ≡ b → ◌≡◌ {A = Ended (List Float)} (when b then e else record { outcome = Refused own_refusal; rows = flat }) e
       by_test true p = refl
       by_test false p = sym (refuses (eqb-false own_refusal 0 p))
 

@@ -7,7 +7,7 @@ use Prim.Native.Nat.{ℕ, ◌+◌}
 use borrow.Author.Tests.{eq-eqb}
 use lib.ListN.{length}
 use lib.Ieee.{Float, nan, inf, fin, neg, of_bits, add, mul, lt, le}
-use Rattle.float.specs.Operators.{if◌then◌else◌, ◌⊗◌, ◌⊘◌, ◌≺◌, ◌≻◌}
+use Rattle.float.specs.Operators.{when◌then◌else◌, ◌⊗◌, ◌⊘◌, ◌≺◌, ◌≻◌}
 use Rattle.float.specs.Float.{zero, abs, max, ◌⋖◌}
 use Rattle.float.proofs.Laws.{max_picks}
 use Rattle.readings.specs.Readings.{pure, ◌>>◌}
@@ -38,7 +38,7 @@ pub data Every (P : Term → Type 0) : List Term → Type 0 where
   and : {t : Term} {ts : List Term} → P t → Every P ts → Every P (t ∷ ts)
 
 abbrev end : Bool → Span → Float
-end up s = if up then s.high else s.low
+end up s = when up then s.high else s.low
 
 above_all : (x : Float) → max x (inf false) ≡ inf false
 unfolding ◌⋖◌ lt
@@ -52,20 +52,20 @@ above_all x = ⊎_elim (λ e. e ∙ highest x e (rw e at (max_picks.none_before 
 
 module _ (ε : Float) where
   holds_narrows : (k : ℕ) (t : Term) (s : Span) → Holds ε t → narrow false ε k t s ≡ Kept s
-  unfolding narrow if◌then◌else◌
+  unfolding narrow when◌then◌else◌
   holds_narrows k t s h = rw (h.none, h.holds)
 
   leaves_end : (up : Bool) (k : ℕ) (t : Term) (s : Span) → Leaves up ε t → (w : Span) × (narrow false ε k t s ≡ Kept w) × (end up w ≡ end up s)
-  unfolding narrow if◌then◌else◌
+  unfolding narrow when◌then◌else◌
   leaves_end up k t s (neither h) = (s, holds_narrows k t s h, refl)
   leaves_end true k t s (other h a) =
       let raised : Span = record { high = s.high; low = t.b ⊘ t.a; active = set_second k s.active } in
       let cuts = t.b ≺ s.low ⊗ t.a in
-      (if cuts then raised else s, rw (h, a), either (λ w. w.high ≡ s.high) cuts {x = raised} {y = s} refl refl)
+      (when cuts then raised else s, rw (h, a), either (λ w. w.high ≡ s.high) cuts {x = raised} {y = s} refl refl)
   leaves_end false k t s (other h a) =
       let lowered : Span = record { high = t.b ⊘ t.a; low = s.low; active = set_first k s.active } in
       let cuts = t.b ≺ s.high ⊗ t.a in
-      (if cuts then lowered else s, rw (h, a), either (λ w. w.low ≡ s.low) cuts {x = lowered} {y = s} refl refl)
+      (when cuts then lowered else s, rw (h, a), either (λ w. w.low ≡ s.low) cuts {x = lowered} {y = s} refl refl)
 
   reduction_leaves : (up : Bool) (ts : List Term) (k : ℕ) (s : Span) → Every (Leaves up ε) ts → end up (lp1d_core false false ε ts k s).value ≡ end up s
   unfolding lp1d_core pure ◌>>◌ meeting
@@ -82,7 +82,7 @@ module _ (ε : Float) where
 
   -- whatever the tolerance is, infinite ends do not cross
   whole_meets : (autonan : Bool) → meeting autonan ε (whole_line no_rows) ≡ whole_line no_rows
-  unfolding meeting whole_line if◌then◌else◌ abs eps_rounding of_bits add mul le lt
+  unfolding meeting whole_line when◌then◌else◌ abs eps_rounding of_bits add mul le lt
   whole_meets false = refl
   whole_meets true = rw (above_all ε)
 
@@ -91,16 +91,16 @@ module _ (tol : Tolerances) (flat : List Float) (taken : refusal 2 (length flat)
   found autonan = (lp1d_core autonan false tol.feasibility (pairs_of flat) 0 (whole_line no_rows)).value
 
   answer : (autonan : Bool) → lp1d autonan tol flat ≡ Between (found autonan).high (found autonan).low
-  unfolding lp1d if◌then◌else◌
+  unfolding lp1d when◌then◌else◌
   answer autonan = rw (eq-eqb _ 0 taken)
 
   -- no pair bounds it from above, or from below
   pub unbounded_above : Every (Leaves true tol.feasibility) (pairs_of flat) → (low : Float) × (lp1d false tol flat ≡ Between (inf false) low)
-  unfolding whole_line if◌then◌else◌
+  unfolding whole_line when◌then◌else◌
   unbounded_above h = (_, answer false ∙ ap (λ x. Between x (found false).low) (reduction_leaves _ true (pairs_of flat) 0 _ h))
 
   pub unbounded_below : Every (Leaves false tol.feasibility) (pairs_of flat) → (high : Float) × (lp1d false tol flat ≡ Between high (inf true))
-  unfolding whole_line if◌then◌else◌
+  unfolding whole_line when◌then◌else◌
   unbounded_below h = (_, answer false ∙ ap (λ x. Between (found false).high x) (reduction_leaves _ false (pairs_of flat) 0 _ h))
 
   -- no pair bounds it at all, also with AUTONAN

@@ -3,7 +3,7 @@ use mathlib.Core.Path.{◌≡◌, refl, sym, ap, ◌∙◌}
 use mathlib.Core.Bool.{Bool, true, false}
 use Prim.Native.Nat.{ℕ}
 use lib.Ieee.{Float, neg}
-use Rattle.float.specs.Operators.{if◌then◌else◌, ◌⊗◌, ◌⊘◌, ◌≺◌, ◌≻◌}
+use Rattle.float.specs.Operators.{when◌then◌else◌, ◌⊗◌, ◌⊘◌, ◌≺◌, ◌≻◌}
 use Rattle.float.specs.Float.{zero}
 use Rattle.active.specs.declared.Slot.{Slot}
 use Rattle.active.specs.declared.Slot.TheVariants.{Holds}
@@ -16,16 +16,16 @@ use Rattle.active.specs.Active.{set_first, set_second}
 use Rattle.line.specs.Line.{coefficient_is_zero, narrow, cut_off, without}
 
 without-cut : (cancel : Bool) (ε : Float) (k : ℕ) (t : Term) (s : Span) → without k (cut_off cancel ε t s.high s.low) s ≡ narrow cancel ε k t s
-unfolding cut_off without narrow if◌then◌else◌
+unfolding cut_off without narrow when◌then◌else◌
 without-cut cancel ε k t s = cases (coefficient_is_zero cancel t) (t.b ≺ neg ε) (t.a ≻ zero) (t.b ≺ s.high ⊗ t.a) (t.b ≺ s.low ⊗ t.a)
   where
     cases : (none fails up above below : Bool)
-        → without k (if none then (if fails then All else Nothing) else if up then
-        (if above then Above (t.b ⊘ t.a) else Nothing)
-        else if below then Below (t.b ⊘ t.a) else Nothing) s
-        ≡ (if none then (if fails then Empty else Kept s) else if up then
-        Kept (if above then record { high = t.b ⊘ t.a; low = s.low; active = set_first k s.active } else s)
-        else Kept (if below then record { high = s.high; low = t.b ⊘ t.a; active = set_second k s.active } else s))
+        → without k (when none then (when fails then All else Nothing) else when up then
+        (when above then Above (t.b ⊘ t.a) else Nothing)
+        else when below then Below (t.b ⊘ t.a) else Nothing) s
+        ≡ (when none then (when fails then Empty else Kept s) else when up then
+        Kept (when above then record { high = t.b ⊘ t.a; low = s.low; active = set_first k s.active } else s)
+        else Kept (when below then record { high = s.high; low = t.b ⊘ t.a; active = set_second k s.active } else s))
     cases true true up above below = refl
     cases true false up above below = refl
     cases false fails true true below = refl

@@ -2,7 +2,7 @@
 use Rattle.std.specs.Prelude.{ℕ, ◌+◌, Bool, true, false, List, [], ◌∷◌, eqb, length, get_or, Float}
 use Rattle.std.specs.Float.{nan, inf}
 use Rattle.std.specs.Float.Ieee.{neg}
-use Rattle.float.specs.Operators.{if◌then◌else◌, ◌⊕◌, ◌⊗◌, ◌⊘◌, ◌≺◌, ◌≼◌, ◌≻◌}
+use Rattle.float.specs.Operators.{when◌then◌else◌, ◌⊕◌, ◌⊗◌, ◌⊘◌, ◌≺◌, ◌≼◌, ◌≻◌}
 use Rattle.float.specs.Float.{zero, one, abs, max, clamp}
 use Rattle.readings.specs.Readings.{Counted, pure, read, ◌>>◌, Paid, paid, stopped}
 use Rattle.rows.specs.Constants.{eps_zero, eps_normalize, eps_rounding, ccw_errbound_a, half}
@@ -39,18 +39,18 @@ coefficient_is_zero false t = abs t.a ≺ clamp (abs t.b) eps_normalize one ⊗ 
 -- term k narrows a span; one with no coefficient that fails leaves nothing
 unfoldable pub narrow : Bool → Float → ℕ → Term → Span → Narrowed
 narrow cancel ε k t s =
-    if coefficient_is_zero cancel t then (if t.b ≺ neg ε then Empty else Kept s)
-    else if t.a ≻ zero then
-    Kept (if t.b ≺ s.high ⊗ t.a then record { high = t.b ⊘ t.a; low = s.low; active = set_first k s.active } else s)
-    else Kept (if t.b ≺ s.low ⊗ t.a then record { high = s.high; low = t.b ⊘ t.a; active = set_second k s.active } else s)
+    when coefficient_is_zero cancel t then (when t.b ≺ neg ε then Empty else Kept s)
+    else when t.a ≻ zero then
+    Kept (when t.b ≺ s.high ⊗ t.a then record { high = t.b ⊘ t.a; low = s.low; active = set_first k s.active } else s)
+    else Kept (when t.b ≺ s.low ⊗ t.a then record { high = s.high; low = t.b ⊘ t.a; active = set_second k s.active } else s)
 
 -- with AUTONAN, ends that cross within tolerance meet in the middle, and others leave nothing
 unfoldable pub meeting : Bool → Float → Span → Span
 meeting false ε s = s
 meeting true ε s =
     let middle = half ⊗ (s.high ⊕ s.low) in
-    if s.low ≼ s.high ⊕ max ε (eps_rounding ⊗ (abs s.low ⊕ abs s.high)) then
-    (if s.low ≼ s.high then s else record { high = middle; low = middle; active = s.active })
+    when s.low ≼ s.high ⊕ max ε (eps_rounding ⊗ (abs s.low ⊕ abs s.high)) then
+    (when s.low ≼ s.high then s else record { high = middle; low = middle; active = s.active })
     else void s
 
 -- the terms from term k on; each takes a reading, the one that ends it included
@@ -78,9 +78,9 @@ on_line false = on_x
 -- what a term cuts off the numbers from `low` to `high`, and a span without what term k cuts off
 unfoldable pub cut_off : Bool → Float → Term → Float → Float → Offcut
 cut_off cancel ε t high low =
-    if coefficient_is_zero cancel t then (if t.b ≺ neg ε then All else Nothing)
-    else if t.a ≻ zero then (if t.b ≺ high ⊗ t.a then Above (t.b ⊘ t.a) else Nothing)
-    else if t.b ≺ low ⊗ t.a then Below (t.b ⊘ t.a) else Nothing
+    when coefficient_is_zero cancel t then (when t.b ≺ neg ε then All else Nothing)
+    else when t.a ≻ zero then (when t.b ≺ high ⊗ t.a then Above (t.b ⊘ t.a) else Nothing)
+    else when t.b ≺ low ⊗ t.a then Below (t.b ⊘ t.a) else Nothing
 
 unfoldable pub without : ℕ → Offcut → Span → Narrowed
 without k Nothing s = Kept s
@@ -107,4 +107,4 @@ unfoldable pub lp1d : Bool → Tolerances → List Float → Bounds
 lp1d autonan tol flat =
     let number = refusal 2 (length flat) in
     let s = (lp1d_core autonan false tol.feasibility (pairs_of flat) 0 (whole_line no_rows)).value in
-    if eqb number 0 then Between s.high s.low else Refused number
+    when eqb number 0 then Between s.high s.low else Refused number

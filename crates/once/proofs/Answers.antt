@@ -4,7 +4,7 @@ use mathlib.Core.Bool.{Bool, true, false}
 use mathlib.Core.List.{List, [], ◌∷◌}
 use Prim.Native.Nat.{ℕ}
 use lib.Ieee.{Float}
-use Rattle.float.specs.Operators.{if◌then◌else◌}
+use Rattle.float.specs.Operators.{when◌then◌else◌}
 use Rattle.readings.specs.Readings.{Paid, paid, stopped}
 use Rattle.rows.specs.declared.Row.{Row}
 use Rattle.rows.specs.Rows.{rows_of, flat_of}
@@ -42,11 +42,11 @@ Says wide p (OnBox s l) = (p ≡ paid (Done s) l) × (on_box wide (Done s) ≡ t
 Says wide p Spent = p ≡ stopped
 
 pub says : (wide : Float) (p : Paid Found) → Says wide p (rounded wide p)
-unfolding rounded on_box if◌then◌else◌
+unfolding rounded on_box when◌then◌else◌
 says wide (paid Failed l) = (refl, refl)
 says wide (paid (Done s) l) = by_test (saturated s.at wide) refl
   where
-    by_test : (b : Bool) → saturated s.at wide ≡ b → Says wide (paid (Done s) l) (if b then OnBox s l else Off (Done s) l)
+    by_test : (b : Bool) → saturated s.at wide ≡ b → Says wide (paid (Done s) l) (when b then OnBox s l else Off (Done s) l)
     by_test true d = (refl, d)
     by_test false d = (refl, d)
 says wide stopped = refl

@@ -1,7 +1,7 @@
 -- `lp_2d_incre_max_y_once`: one solve over one box. Assumes nothing.
 use Rattle.std.specs.Prelude.{ℕ, Bool, false, ◌&&◌, ◌||◌, List, [], ◌∷◌, length, drop, Float}
 use Rattle.std.specs.Float.{nan}
-use Rattle.float.specs.Operators.{if◌then◌else◌, ◌⊗◌, ◌⊘◌, ◌≺◌, ◌≼◌, ◌≻◌, ◌≈◌}
+use Rattle.float.specs.Operators.{when◌then◌else◌, ◌⊗◌, ◌⊘◌, ◌≺◌, ◌≼◌, ◌≻◌, ◌≈◌}
 use Rattle.float.specs.Float.{abs, finite, max}
 use Rattle.readings.specs.Readings.{Counted, pure, read, ◌>>◌, Paid, paid, stopped, within}
 use Rattle.rows.specs.Constants.{eps_zero, lp_bound, lp_box_growth, half, max_deferred_rounds}
@@ -32,12 +32,12 @@ prepared Source rows = read (length rows) >> pure (normalized rows)
 -- a finite start outside the box widens it
 unfoldable pub widened : WarmStart → Float → Float
 widened start bound =
-    if finite start.x && finite start.y && (abs start.x ≻ bound || abs start.y ≻ bound)
+    when finite start.x && finite start.y && (abs start.x ≻ bound || abs start.y ≻ bound)
     then lp_box_growth ⊗ max (abs start.x) (abs start.y) else bound
 
 -- a start level of exactly 1e6 is the edge of a larger box
 unfoldable pub begun : WarmStart → Float → Point
-begun start bound = record { x = start.x; y = if start.y ≈ lp_bound && bound ≻ lp_bound then bound else start.y }
+begun start bound = record { x = start.x; y = when start.y ≈ lp_bound && bound ≻ lp_bound then bound else start.y }
 
 -- both passes, over two rows or more as they stand
 unfoldable pub passes : Task → List Row → Float → Counted Found
@@ -62,7 +62,7 @@ pub record Once : Type 0 where
 
 -- one row alone bounds y where it is level
 unfoldable pub lone : Row → Found
-lone r = if abs r.a ≺ eps_zero && r.b ≻ eps_zero then Done (record { at = record { x = nan; y = r.c ⊘ r.b }; active = no_rows }) else Failed
+lone r = when abs r.a ≺ eps_zero && r.b ≻ eps_zero then Done (record { at = record { x = nan; y = r.c ⊘ r.b }; active = no_rows }) else Failed
 
 unfoldable pub many : Task → List Row → Float → Once
 many T rows bound =
@@ -94,7 +94,7 @@ leaves flat stopped = flat
 
 unfoldable pub rounded : Float → Paid Found → Round
 rounded wide (paid Failed left) = round_is.Off Failed left
-rounded wide (paid (Done s) left) = if saturated s.at wide then round_is.OnBox s left else round_is.Off (Done s) left
+rounded wide (paid (Done s) left) = when saturated s.at wide then round_is.OnBox s left else round_is.Off (Done s) left
 rounded wide stopped = round_is.Spent
 
 -- a solve over one box, of the rows as they were prepared

@@ -4,7 +4,7 @@ use mathlib.Core.Bool.{Bool, true, false}
 use mathlib.Core.List.{List}
 use Prim.Native.Nat.{ℕ}
 use lib.Ieee.{Float}
-use Rattle.float.specs.Operators.{if◌then◌else◌, ◌⊗◌, ◌≈◌}
+use Rattle.float.specs.Operators.{when◌then◌else◌, ◌⊗◌, ◌≈◌}
 use Rattle.readings.specs.Readings.{Counted, pure, ◌>>=◌, Paid, within}
 use Rattle.readings.proofs.Laws.{within-pure, goes_no_further}
 use Rattle.rows.specs.Constants.{repair_tol_scale}
@@ -23,7 +23,7 @@ use Rattle.passes.proofs.Binds.{pure_first, alike, pure-last, goes_through}
 
 -- after an attempt in a frame: another at the tolerance, unless it was the last
 next : List Row → Frame → ℕ → State → Bool → Found → Counted Found
-next R F upto s last FoundIs.Failed = if last then pure FoundIs.Failed else recover R F upto s
+next R F upto s last FoundIs.Failed = when last then pure FoundIs.Failed else recover R F upto s
 next R F upto s last (FoundIs.Done t) = pure (FoundIs.Done t)
 
 -- the frame `aim` is next, `rest` readings are left, and with these the attempts and the pass after them give `whole`
@@ -58,11 +58,11 @@ module _ {R : List Row} {F : Frame} {upto : ℕ} {s : State} {onwards : State �
       after_failure = sym (goes_through rest _ _ _ (tells _ gave e)) ∙ attempt.gives
 
       pub attempt_fails : last ≡ true → Failed k ≡ stepped whole
-      unfolding next ◌>>?◌ onward if◌then◌else◌ stepped
+      unfolding next ◌>>?◌ onward when◌then◌else◌ stepped
       attempt_fails h = ap stepped (sym (ap (within k) (pure_first FoundIs.Failed (onward onwards)) ∙ within-pure k FoundIs.Failed) ∙ (rw h at after_failure))
 
       pub attempt_again : last ≡ false → Attempt R F upto s onwards k true F whole
-      unfolding next if◌then◌else◌
+      unfolding next when◌then◌else◌
       attempt_again h = record { gives = ap (λ m. within k (m >>? onwards)) no_more ∙ (rw h at after_failure) }
         where
           by_cases : (found : Found) → next R F upto s true found ≡ pure found

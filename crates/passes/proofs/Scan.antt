@@ -8,7 +8,7 @@ use native.Mathlib.Omega.{arith}
 use borrow.Author.Tests.{not-false}
 use lib.ListN.{length, drop}
 use lib.Ieee.{Float, lt}
-use Rattle.float.specs.Operators.{if◌then◌else◌, ◌⊗◌, ◌≼◌, ◌≻◌}
+use Rattle.float.specs.Operators.{when◌then◌else◌, ◌⊗◌, ◌≼◌, ◌≻◌}
 use Rattle.float.specs.Float.{zero}
 use Rattle.float.proofs.Order.{neither, not_above_lem, lt_asym}
 use Rattle.float.proofs.Laws.{max_picks, above_size, above_no_size}
@@ -64,7 +64,7 @@ module _ {ε : Float} {p : Point} {flat : List Float} {n i rest : ℕ} {w : Wors
 
     module _ (some : 0 < rest) where
       pub takes : excess ε row p ≻ w.excess ≡ true → Scan ε p flat n (i + 1) (rest - 1) (record { excess = excess ε row p; row = Holds i }) whole
-      unfolding worst if◌then◌else◌
+      unfolding worst when◌then◌else◌
       takes e = record {
         all = scan.all;
         gives = sym (reading_fits rest 1 _ (omega arith)) ∙ (rw e at opened);
@@ -72,7 +72,7 @@ module _ {ε : Float} {p : Point} {flat : List Float} {n i rest : ℕ} {w : Wors
       }
 
       pub passes_over : excess ε row p ≻ w.excess ≡ false → Scan ε p flat n (i + 1) (rest - 1) w whole
-      unfolding worst if◌then◌else◌
+      unfolding worst when◌then◌else◌
       passes_over e = record { all = scan.all; gives = sym (reading_fits rest 1 _ (omega arith)) ∙ (rw e at opened); sized = scan.sized }
 
       pub skips : residual row p ≻ zero || not (zero ≼ ε) ≡ false → Scan ε p flat n (i + 1) (rest - 1) w whole

@@ -6,7 +6,7 @@ use Prim.Native.Nat.{ℕ, ◌+◌, ◌-◌, ◌*◌, ◌≤◌, ◌<◌}
 use native.Mathlib.Omega.{arith}
 use lib.ListN.{length, drop}
 use lib.Ieee.{Float}
-use Rattle.float.specs.Operators.{if◌then◌else◌, ◌⊗◌, ◌≼◌, ◌≈◌}
+use Rattle.float.specs.Operators.{when◌then◌else◌, ◌⊗◌, ◌≼◌, ◌≈◌}
 use Rattle.readings.specs.Readings.{Counted, pure, read, ◌>>=◌, ◌>>◌, Paid, within}
 use Rattle.readings.proofs.Laws.{within-pure, reading_stops, reading_fits, goes_no_further}
 use Rattle.rows.specs.Constants.{repair_tol_scale}
@@ -28,14 +28,14 @@ use Rattle.passes.proofs.Attempts.{Attempt, first_attempt}
 
 -- a trial where the residual is at most the tolerance, and none where it is not
 abbrev trying : List Row → Frame → Row → ℕ → State → Counted Found
-trying R F r i s = if residual r s.at ≼ F.epsilon then step R F i i s else pure (FoundIs.Done s)
+trying R F r i s = when residual r s.at ≼ F.epsilon then step R F i i s else pure (FoundIs.Done s)
 
 by_trial : (scale : Float) (R : List Row) (F : Frame) (r : Row) (i : ℕ) (s : State) → pivot scale R F r i s ≡ (trying R F r i s >>= after_trial scale R F i s)
-unfolding pivot after_trial if◌then◌else◌
+unfolding pivot after_trial when◌then◌else◌
 by_trial scale R F r i s = by_test (residual r s.at ≼ F.epsilon)
   where
-    by_test : (b : Bool) → (if b then step R F i i s >>= after_trial scale R F i s else step R F i i s)
-        ≡ ((if b then step R F i i s else pure (FoundIs.Done s)) >>= after_trial scale R F i s)
+    by_test : (b : Bool) → (when b then step R F i i s >>= after_trial scale R F i s else step R F i i s)
+        ≡ ((when b then step R F i i s else pure (FoundIs.Done s)) >>= after_trial scale R F i s)
     by_test true = refl
     by_test false = sym (pure_first (FoundIs.Done s) (after_trial scale R F i s))
 
@@ -59,7 +59,7 @@ module _ {scale : Float} {F : Frame} {flat : List Float} {n i rest : ℕ} {s : S
 
     -- row i, once its reading is paid for, and the pass after it
     abbrev from_here : Counted Found
-    from_here = (if violated row s.at then pivot scale (rows_of flat) F row i s else pure (FoundIs.Done s)) >>? after scale F flat i
+    from_here = (when violated row s.at then pivot scale (rows_of flat) F row i s else pure (FoundIs.Done s)) >>? after scale F flat i
 
     opened : within rest (read 1 >> from_here) ≡ whole
     unfolding forward ◌>>?◌
@@ -74,7 +74,7 @@ module _ {scale : Float} {F : Frame} {flat : List Float} {n i rest : ℕ} {s : S
       paid_for = sym (reading_fits rest 1 _ (omega arith)) ∙ opened
 
       pub keeps : violated row s.at ≡ false → Turn scale F flat n (i + 1) (rest - 1) s whole
-      unfolding if◌then◌else◌ ◌>>?◌ onward
+      unfolding when◌then◌else◌ ◌>>?◌ onward
       keeps e = record {
         all = turn.all;
         gives = ap (within (rest - 1)) (sym (pure_first (FoundIs.Done s) (onward (after scale F flat i)))) ∙ (rw e at paid_for);
@@ -82,7 +82,7 @@ module _ {scale : Float} {F : Frame} {flat : List Float} {n i rest : ℕ} {s : S
 
       module _ (e : violated row s.at ≡ true) {got : Stepped} (gave : got ≡ stepped (within (rest - 1) (trying (rows_of flat) F row i s))) where
         to_trial : within (rest - 1) (trying (rows_of flat) F row i s >>= after_trial scale (rows_of flat) F i s >>= onward (after scale F flat i)) ≡ whole
-        unfolding if◌then◌else◌ ◌>>?◌
+        unfolding when◌then◌else◌ ◌>>?◌
         to_trial = rw (e, by_trial scale (rows_of flat) F row i s) at paid_for
 
         pub trial_stops : got ≡ Spent → Spent ≡ stepped whole

@@ -1,6 +1,6 @@
 -- The two passes of `lp_2d_incre_max_y_once`: the forward pass with its recoveries, and the deferred rounds.
 use Rattle.std.specs.Prelude.{ℕ, ◌+◌, Bool, List, [], ◌∷◌, Float, zero, suc, length}
-use Rattle.float.specs.Operators.{if◌then◌else◌, ◌⊗◌, ◌≼◌, ◌≻◌, ◌≈◌, ◌⊖◌}
+use Rattle.float.specs.Operators.{when◌then◌else◌, ◌⊗◌, ◌≼◌, ◌≻◌, ◌≈◌, ◌⊖◌}
 use Rattle.readings.specs.Readings.{Counted, pure, read, ◌>>=◌, ◌>>◌, Paid, paid, stopped}
 use Rattle.rows.specs.Constants.{eps_rounding, repair_tol_scale}
 use Rattle.rows.specs.declared.Row.{Row}
@@ -31,7 +31,7 @@ frame bound ε scale = record { bound = bound; epsilon = ε; reduced = ε ⊗ sc
 -- a failed trial: recovery at a quarter of the tolerance, and then, unless that is the same, at the tolerance
 unfoldable pub second_try : List Row → Frame → ℕ → State → Float → Found → Counted Found
 second_try R F upto s ε (Done t) = pure (Done t)
-second_try R F upto s ε Failed = let again = recover R F upto s in if ε ≈ F.epsilon then pure Failed else again
+second_try R F upto s ε Failed = let again = recover R F upto s in when ε ≈ F.epsilon then pure Failed else again
 
 unfoldable pub repair : Float → List Row → Frame → ℕ → State → Counted Found
 repair scale R F upto s = let ε = F.epsilon ⊗ repair_tol_scale in recover R (frame F.bound ε scale) upto s >>= second_try R F upto s ε
@@ -46,14 +46,14 @@ unfoldable pub pivot : Float → List Row → Frame → Row → ℕ → State �
 pivot scale R F r i s =
     let firm = step R F i i s in
     let tried = firm >>= after_trial scale R F i s in
-    if residual r s.at ≼ F.epsilon then tried else firm
+    when residual r s.at ≼ F.epsilon then tried else firm
 
 -- the rows from row i on, up to the first infeasible step
 unfoldable pub forward : Float → List Row → Frame → List Row → ℕ → State → Counted Found
 forward scale R F [] i s = pure (Done s)
 forward scale R F (r ∷ rs) i s =
     let pinned = pivot scale R F r i s in
-    read 1 >> (if violated r s.at then pinned else pure (Done s)) >>? forward scale R F rs (i + 1)
+    read 1 >> (when violated r s.at then pinned else pure (Done s)) >>? forward scale R F rs (i + 1)
 
 -- ---- the deferred rounds
 
@@ -66,7 +66,7 @@ unfoldable pub worst : Float → Point → List Row → ℕ → Worst → Counte
 worst ε p [] i w = pure w
 worst ε p (r ∷ rs) i w =
     let e = excess ε r p in
-    read 1 >> worst ε p rs (i + 1) (if e ≻ w.excess then record { excess = e; row = Holds i } else w)
+    read 1 >> worst ε p rs (i + 1) (when e ≻ w.excess then record { excess = e; row = Holds i } else w)
 
 unfoldable pub none : Worst
 none = record { excess = float.zero; row = NoRow }

@@ -2,7 +2,7 @@
 #![tactic(auto)]
 
 ghost use Rattle.std.specs.Prelude.{◌≡◌, ◌+◌, ◌*◌, ◌<◌, length, drop, not, ◌||◌};
-ghost use Rattle.float.specs.Operators.{if◌then◌else◌, ◌⊗◌, ◌≼◌, ◌≻◌};
+ghost use Rattle.float.specs.Operators.{when◌then◌else◌, ◌⊗◌, ◌≼◌, ◌≻◌};
 ghost use Rattle.readings.specs.Readings.{pure, within};
 ghost use Rattle.rows.specs.Constants.{eps_rounding};
 ghost use Rattle.rows.specs.Rows.{rows_of, weight};
@@ -55,7 +55,7 @@ pub fn frame(bound: f64, eps: f64, scale: f64) -> Frame
 // A trial of row i where its residual is at most the tolerance, and none where it is not.
 fn trial(rows: &[f64], i: usize, residual: f64, f: Frame, s: State, left: u64) -> Stepped
     requires { 3 * i + 2 < length rows.now }
-    ensures { result ≡ stepped (within left (if residual ≼ f.epsilon then step (rows_of rows.now) f i i s else pure (Done s))) }
+    ensures { result ≡ stepped (within left (when residual ≼ f.epsilon then step (rows_of rows.now) f i i s else pure (Done s))) }
 {
     if residual <= f.epsilon {
         return step::incre_step_2d(rows, i, i, f, s, left);

@@ -9,7 +9,7 @@ use lib.ListN.{length, take, drop}
 use lib.Seq.{take_all, take-append-le}
 use lib.Ieee.{Float, binary64, of_bits}
 use borrow.Author.Tests.{eq-eqb, ne_eqb}
-use Rattle.float.specs.Operators.{if◌then◌else◌}
+use Rattle.float.specs.Operators.{when◌then◌else◌}
 use Rattle.solve.specs.declared.Outcome.{Outcome}
 use Rattle.solve.specs.declared.Outcome.TheVariants.{Refused}
 use Rattle.solve.specs.Solve.{Ended, solve}
@@ -62,8 +62,8 @@ all_rows : (a : List ℕ) → take (float_count a) (row_floats a) ≡ row_floats
 unfolding row_floats
 all_rows a = take_all (float_count a) (floats (float_count a) (drop rows_at a)) (omega (arith, length-floats (float_count a) (drop rows_at a)))
 
-outcome_of : (c : Bool) (x y : Ended (List Float)) → (if c then x else y).outcome ≡ (if c then x.outcome else y.outcome)
-unfolding if◌then◌else◌
+outcome_of : (c : Bool) (x y : Ended (List Float)) → (when c then x else y).outcome ≡ (when c then x.outcome else y.outcome)
+unfolding when◌then◌else◌
 outcome_of true x y = refl
 outcome_of false x y = refl
 
@@ -71,7 +71,7 @@ outcome_of false x y = refl
 abbrev comes_to : List ℕ → List Float → Outcome
 comes_to a rows =
     let number = refusal (kind a) (body_length a) (normalize_byte a) in
-    if eqb number 0 then (solve (task a) (allowance a) rows).outcome else Refused number
+    when eqb number 0 then (solve (task a) (allowance a) rows).outcome else Refused number
 
 by_solved : (a : List ℕ) (rows : List Float) → (answered a rows).outcome ≡ comes_to a (take (float_count a) rows)
 unfolding answered
@@ -79,7 +79,7 @@ by_solved a rows = outcome_of _ _ _
 
 pub refused : (a : List ℕ) (rows : List Float) → (number a ≡ 0 → ⊥)
     → answered a rows ≡ record { outcome = Refused (refusal (kind a) (body_length a) (normalize_byte a)); rows = rows }
-unfolding answered if◌then◌else◌
+unfolding answered when◌then◌else◌
 refused a rows not0 =
     rw (ne_eqb (refusal (kind a) (body_length a) (normalize_byte a)) 0 (λ e. not0 (solved-without (kind a) (body_length a) (normalize_byte a) e)))
 

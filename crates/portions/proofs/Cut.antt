@@ -8,7 +8,7 @@ use native.Mathlib.Omega.{arith}
 use lib.ListN.{length, take, drop, replicate, length-take, length-drop, take-append-drop}
 use lib.Seq.{take-take}
 use lib.Ieee.{Float}
-use Rattle.float.specs.Operators.{if◌then◌else◌}
+use Rattle.float.specs.Operators.{when◌then◌else◌}
 use Rattle.record.specs.Sizes.{rows_at, most_floats}
 use Rattle.portions.specs.Stream.{output}
 use Rattle.reader.specs.Reader.{State, state, most_bytes, started, listening, after_all, texts, taken, fed, said, last_text}
@@ -107,7 +107,7 @@ module _ (limit : ℕ) (head head' : List ℕ) (rows rows' : List Float) (input 
 
 module _ (size : ℕ) (some : 0 < size) where
   takes_one : (s : State) (input : List ℕ) → listening s.link s.head ≡ true → 0 < length input → 0 < taken_of (to_end size) s (take size input)
-  unfolding taken_of taken state if◌then◌else◌
+  unfolding taken_of taken state when◌then◌else◌
   takes_one s input listens there = rw listens (takes_some s (take size input) (omega (arith, length-take size input)))
 
   fewer : (n k : ℕ) (input : List ℕ) → (0 < length input → 0 < n) → length input ≤ suc k → length (drop n input) ≤ k

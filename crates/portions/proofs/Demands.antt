@@ -11,7 +11,7 @@ use lib.ListN.{length, take}
 use lib.Seq.{take-nil}
 use lib.Ieee.{Float}
 use borrow.Author.Tests.{le-ltb, ne_eqb}
-use Rattle.float.specs.Operators.{if◌then◌else◌}
+use Rattle.float.specs.Operators.{when◌then◌else◌}
 use Rattle.solve.specs.declared.Outcome.{Outcome}
 use Rattle.solve.specs.Solve as solving
 use Rattle.solve.proofs.Allowance.{solve_no_other}
@@ -45,12 +45,12 @@ module _ (limit : ℕ) (head : List ℕ) (rows : List Float) (input : List ℕ) 
   still_listens = let got = cut.taken-once s input offers in rw got.now_is (keeps_listening s got.bytes (started_listens limit head))
 
   pub never_refused : refusal_of now.link now.head ≡ 0
-  unfolding refusal_of if◌then◌else◌
+  unfolding refusal_of when◌then◌else◌
   never_refused = rw still_listens
 
   pub whatever_cut : limit ≤ most_bytes → length head ≡ rows_at → length rows ≡ most_floats → (run s input offers).left ≡ []
       → (run s input offers).printed ++ end_text now.link now.head ≡ output limit input
-  unfolding end_text if◌then◌else◌
+  unfolding end_text when◌then◌else◌
   whatever_cut few head_room rows_room none = rw still_listens (cut.whatever_cut limit head rows input offers few head_room rows_room none)
 
 -- ---- 2. a portion of no bytes changes nothing and prints nothing
@@ -111,23 +111,23 @@ module _ (s : State) (b : ℕ) where
 module _ (link : Link) (head : List ℕ) where
   module _ (not_so : listening link head ≡ false) where
     pub refused_by_12 : refusal_of link head ≡ 12
-    unfolding refusal_of if◌then◌else◌
+    unfolding refusal_of when◌then◌else◌
     refused_by_12 = rw not_so
 
     pub takes_nothing : (rows : List Float) (bytes : List ℕ) → taken link head rows bytes ≡ 0
-    unfolding taken if◌then◌else◌
+    unfolding taken when◌then◌else◌
     takes_nothing rows bytes = rw not_so
 
     pub takes_nothing_in : (room : ℕ) (rows : List Float) (bytes : List ℕ) → taken_in room link head rows bytes ≡ 0
-    unfolding taken_in if◌then◌else◌
+    unfolding taken_in when◌then◌else◌
     takes_nothing_in room rows bytes = rw not_so
 
     pub no_last-text : end_text link head ≡ []
-    unfolding end_text if◌then◌else◌
+    unfolding end_text when◌then◌else◌
     no_last-text = rw not_so
 
     pub stays_ended : ended link head ≡ link
-    unfolding ended if◌then◌else◌
+    unfolding ended when◌then◌else◌
     stays_ended = rw not_so
 
   pub closed_never_listens : listening (closed link) head ≡ false
@@ -167,7 +167,7 @@ module _ (s : State) (b : ℕ) where
     not_in_rows = rw (ne_eqb (number s.head) 0 not0)
 
     untouched_on : Untouched (placed s b)
-    unfolding placed state head_with word_with rows_with if◌then◌else◌
+    unfolding placed state head_with word_with rows_with when◌then◌else◌
     untouched_on = (rw (le-ltb s.link.passed (kept s.head) past), rw not_in_rows, rw not_in_rows)
 
     untouched_next : Untouched (turned (placed s b))

@@ -13,7 +13,7 @@ use lib.ListN.{length, take, drop, set, length-append, length-drop, drop_of_leng
 use lib.Seq.{take-length, take_all, take-append-le, drop-append-le, take-set-le, take-suc-set, sets-eq}
 use lib.Ieee.{Float}
 use borrow.Author.Tests.{lt-ltb, le-ltb, ltb-true, ltb-false}
-use Rattle.float.specs.Operators.{if◌then◌else◌}
+use Rattle.float.specs.Operators.{when◌then◌else◌}
 use Rattle.record.specs.Sizes.{header_bytes, field_bytes, row_bytes, rows_at, most_floats}
 use Rattle.record.specs.Bytes.{floats}
 use Rattle.record.specs.Record.{body_length, kind, size, float_count, row_floats, answered, outcome}
@@ -149,7 +149,7 @@ module _ (seen : List ℕ) (s : State) (holds : Holds seen s) where
         refl
 
     head-set : length seen < kept s.head → head_with s b ≡ set s.head (length seen) b
-    unfolding head_with if◌then◌else◌
+    unfolding head_with when◌then◌else◌
     head-set few = rw (holds.passed, lt-ltb (length seen) (kept s.head) few)
 
     first_last : length seen < kept more → take (length seen + 1) (head_with s b) ≡ take (length seen + 1) more
@@ -178,11 +178,11 @@ module _ (seen : List ℕ) (s : State) (holds : Holds seen s) where
       behind = ap (λ n. n - rows_at) holds.passed ∙ sym (length-drop rows_at seen)
 
       word_next : word_with s b ≡ pushed (length (drop rows_at seen)) s.link.word b
-      unfolding word_with if◌then◌else◌
+      unfolding word_with when◌then◌else◌
       word_next = rw (is_in_rows, behind)
 
       rows_next : rows_with s b ≡ rows_in (length (drop rows_at seen)) s.link.word b s.rows
-      unfolding rows_with if◌then◌else◌
+      unfolding rows_with when◌then◌else◌
       rows_next = rw (is_in_rows, behind)
 
     gathered_next : keeps_rows more ≡ true → rows_at ≤ length more → Gathered (drop rows_at more) (word_with s b) (rows_with s b)

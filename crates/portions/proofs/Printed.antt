@@ -8,7 +8,7 @@ use lib.Dec.{ltb, eqb-suc-zero}
 use borrow.Author.Tests.{lt-ltb, le-ltb}
 use lib.ListN.{length, length-append}
 use lib.Seq.{drop-append_seam}
-use Rattle.float.specs.Operators.{if◌then◌else◌}
+use Rattle.float.specs.Operators.{when◌then◌else◌}
 use Rattle.text.specs.Lines.{outcome_line}
 use Rattle.record.specs.Sizes.{header_bytes}
 use Rattle.record.specs.Record.{size, outcome}
@@ -35,14 +35,14 @@ abbrev pub Prints : ℕ → List ℕ → List ℕ → Type 0
 Prints n bytes out = (turns : ℕ) → length bytes ≤ turns → printed turns n bytes ≡ out
 
 pub prints_cut : (n : ℕ) (bytes : List ℕ) → length bytes < size bytes → Prints n bytes (ending n bytes)
-unfolding printed if◌then◌else◌
+unfolding printed when◌then◌else◌
 prints_cut n bytes h zero few = refl
 prints_cut n bytes h (suc turns) few = rw (is_cut bytes h)
 
 -- a record that is all there, with bytes behind it
 pub prints_first : (n : ℕ) (bytes rest out : List ℕ) → size bytes ≡ length bytes → Prints (n + 1) rest out
     → Prints n (bytes ++ rest) (outcome_line (n + 1) (outcome bytes) ++ out)
-unfolding printed if◌then◌else◌ header_bytes
+unfolding printed when◌then◌else◌ header_bytes
 prints_first n bytes rest out all later zero few = absurd (omega (arith, has_header bytes, length-append bytes rest))
 prints_first n bytes rest out all later (suc turns) few =
     let long = length-append bytes rest in
@@ -53,6 +53,6 @@ prints_first n bytes rest out all later (suc turns) few =
 
 -- where the input ends, the reader prints what is printed there
 pub last_is_ending : (link : Link) (seen : List ℕ) → link.passed ≡ length seen → last_text link ≡ ending link.lines seen
-unfolding last_text ending if◌then◌else◌
+unfolding last_text ending when◌then◌else◌
 last_is_ending link [] all = rw all
 last_is_ending link (b ∷ seen) all = rw (all, eqb-suc-zero (length seen))

@@ -4,7 +4,7 @@ use mathlib.Core.List.{List, ◌++◌, [] as none, ◌∷◌ as ◌then◌}
 use Prim.Native.Nat.{ℕ}
 use Prim.Native.String.{String}
 use lib.ListN.{replicate}
-use Rattle.float.specs.Operators.{if◌then◌else◌}
+use Rattle.float.specs.Operators.{when◌then◌else◌}
 use Rattle.text.specs.Sizes.{longest_decimal}
 use Rattle.text.specs.Text.{glyph, decimal_within, decimal}
 use Rattle.text.specs.Lines.{refused_word, number_word, refusal_words, outcome_words, outcome_line, end_line}
@@ -41,6 +41,6 @@ Sample =
 
 pub sample : Sample
 unfolding
-    if◌then◌else◌ glyph longest_decimal decimal_within decimal refused_word number_word refusal_words outcome_words outcome_line end_line little field
+    when◌then◌else◌ glyph longest_decimal decimal_within decimal refused_word number_word refusal_words outcome_words outcome_line end_line little field
     header_bytes field_bytes row_bytes record_rows body_length kind size normalize_byte refusal answered outcome whole ending printed output most_bytes
 sample = (refl, refl, refl, refl, refl, refl, refl, refl)

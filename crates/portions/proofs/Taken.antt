@@ -10,7 +10,7 @@ use lib.Dec.{ltb}
 use borrow.Author.Tests.{lt-ltb, le-ltb}
 use lib.ListN.{length, take, drop}
 use lib.Ieee.{Float}
-use Rattle.float.specs.Operators.{if◌then◌else◌}
+use Rattle.float.specs.Operators.{when◌then◌else◌}
 use Rattle.text.specs.Sizes.{longest_line}
 use Rattle.reader.specs.declared.Link.{Link}
 use Rattle.reader.specs.Reader.{State, state, listening, ends, after, text, after_all, texts, up_to_end, up_to_room, taken, taken_in}
@@ -24,14 +24,14 @@ pub up_to_end_lem : (P : State → List ℕ → ℕ → Type 0)
     → ((s : State) (b : ℕ) (bytes : List ℕ) → ends s b ≡ true → P s (b ∷ bytes) 1)
     → ((s : State) (b n : ℕ) (bytes : List ℕ) → ends s b ≡ false → P (after s b) bytes n → P s (b ∷ bytes) (suc n))
     → (s : State) (bytes : List ℕ) → P s bytes (up_to_end s bytes)
-unfolding up_to_end if◌then◌else◌
+unfolding up_to_end when◌then◌else◌
 up_to_end_lem P none last before s [] = none s
 up_to_end_lem P none last before s (b ∷ bytes) = go (ends s b) refl (up_to_end_lem P none last before (after s b) bytes)
   where
     more : ℕ
     more = up_to_end (after s b) bytes
 
-    go : (e : Bool) → ends s b ≡ e → P (after s b) bytes more → P s (b ∷ bytes) (if e then 1 else 1 + more)
+    go : (e : Bool) → ends s b ≡ e → P (after s b) bytes more → P s (b ∷ bytes) (when e then 1 else 1 + more)
     go true e behind = last s b bytes e
     go false e behind = rw (one-add more) (before s b more bytes e behind)
 
@@ -42,7 +42,7 @@ pub takes_some : (s : State) (bytes : List ℕ) → 0 < length bytes → 0 < up_
 takes_some = up_to_end_lem (λ s bytes n. 0 < length bytes → 0 < n) (λ s h. omega arith) (λ s b bytes e h. omega arith) (λ s b n bytes e h some. omega arith)
 
 before_end : (s : State) (b : ℕ) → ends s b ≡ false → text s b ≡ []
-unfolding text if◌then◌else◌
+unfolding text when◌then◌else◌
 before_end s b e = rw e
 
 pub one_line : (s : State) (bytes : List ℕ) → length (texts s (take (up_to_end s bytes) bytes)) ≤ longest_line
@@ -56,13 +56,13 @@ one_line =
 -- ---- as long as there is room for a line
 
 pub no_room : (room : ℕ) (s : State) (bytes : List ℕ) → room < longest_line → up_to_room room s bytes ≡ 0
-unfolding up_to_room if◌then◌else◌
+unfolding up_to_room when◌then◌else◌
 no_room room s [] full = refl
 no_room room s (b ∷ bytes) full = rw (lt-ltb room longest_line full)
 
 with_room : (room : ℕ) (s : State) (b : ℕ) (bytes : List ℕ) → longest_line ≤ room
     → up_to_room room s (b ∷ bytes) ≡ 1 + up_to_room (room - length (text s b)) (after s b) bytes
-unfolding up_to_room if◌then◌else◌
+unfolding up_to_room when◌then◌else◌
 with_room room s b bytes free = rw (le-ltb room longest_line free)
 
 -- up to a record's end the room is what it was: with room for a line it is taken whole, and the rest goes by the room that is left

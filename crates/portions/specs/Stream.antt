@@ -1,6 +1,6 @@
 -- What is printed for a whole input: a line for each record, and the closing count. Assumes nothing.
 use Rattle.std.specs.Prelude.{ℕ, zero, suc, ◌+◌, Bool, not, ◌&&◌, List, [], ◌∷◌, ◌++◌, ltb, length, take, drop}
-use Rattle.float.specs.Operators.{if◌then◌else◌}
+use Rattle.float.specs.Operators.{when◌then◌else◌}
 use Rattle.solve.specs.declared.Outcome.TheVariants.{Refused}
 use Rattle.text.specs.Lines.{outcome_line, end_line}
 use Rattle.record.specs.Sizes.{header_bytes}
@@ -20,7 +20,7 @@ unfoldable pub printed : ℕ → ℕ → List ℕ → List ℕ
 printed zero n bytes = ending n bytes
 printed (suc turns) n bytes =
     let rest = printed turns (n + 1) (drop (size bytes) bytes) in
-    if whole bytes then outcome_line (n + 1) (outcome bytes) ++ rest else ending n bytes
+    when whole bytes then outcome_line (n + 1) (outcome bytes) ++ rest else ending n bytes
 
 -- bytes past the first `limit` count as not there
 unfoldable pub output : ℕ → List ℕ → List ℕ

@@ -6,7 +6,7 @@ use native.Mathlib.Numerals.{add-one}
 use lib.ListN.{length, get_or, drop, drop_of_length-le}
 use lib.Seq.{drop-cons}
 use lib.Ieee.{Float, nan}
-use Rattle.float.specs.Operators.{if◌then◌else◌}
+use Rattle.float.specs.Operators.{when◌then◌else◌}
 use Rattle.readings.specs.Readings.{Paid, within}
 use Rattle.readings.proofs.Laws.{within-pure, goes_on, goes_no_further}
 use Rattle.rows.specs.declared.Row.{Row}
@@ -38,9 +38,9 @@ module _ {ε y : Float} {rows : List Row} {xs : List Float} {k rest : ℕ} {whol
       stops e = ap projected (sym (goes_no_further rest _ _ (tells _ tried e)) ∙ opened)
 
       pub finds : {after : ℕ} → result ≡ Pass after → ProjectedIs.At (get_or xs k nan) after ≡ projected whole
-      unfolding first_that_works if◌then◌else◌ projected
+      unfolding first_that_works when◌then◌else◌ projected
       finds e = ap projected (sym (goes_on rest _ _ (tells _ tried e) ∙ within-pure _ _) ∙ opened)
 
       pub tries_on : {after : ℕ} → result ≡ Fail after → Turn ε y rows xs (k + 1) after whole
-      unfolding first_that_works if◌then◌else◌
+      unfolding first_that_works when◌then◌else◌
       tries_on e = record { gives = sym (goes_on rest _ _ (tells _ tried e)) ∙ opened }

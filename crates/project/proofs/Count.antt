@@ -7,7 +7,7 @@ use native.Mathlib.Nat.{mul-le-mul_right}
 use native.Mathlib.Omega.{arith}
 use lib.ListN.{length, take, length-append}
 use lib.Ieee.{Float}
-use Rattle.float.specs.Operators.{if◌then◌else◌}
+use Rattle.float.specs.Operators.{when◌then◌else◌}
 use Rattle.float.specs.Float.{finite}
 use Rattle.readings.specs.Readings.{Counted}
 use Rattle.readings.proofs.Bounds.{◌at_most◌, wider, pure_takes, read_takes, if_takes, bind_takes}
@@ -25,10 +25,10 @@ cut_cases Empty h k = h
 cut_cases (Keep v) h k = k v
 
 one-middle : (v : Interval) → length (middle v) ≤ 1
-unfolding middle if◌then◌else◌
+unfolding middle when◌then◌else◌
 one-middle v = go (finite v.low && finite v.high) _
   where
-    go : (b : Bool) (x : Float) → length (if b then x ∷ [] else []) ≤ 1
+    go : (b : Bool) (x : Float) → length (when b then x ∷ [] else []) ≤ 1
     go true x = omega arith
     go false x = omega arith
 

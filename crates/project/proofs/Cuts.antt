@@ -6,7 +6,7 @@ use Prim.Native.Nat.{ℕ, ◌+◌, ◌-◌, ◌*◌, ◌≤◌, ◌<◌}
 use native.Mathlib.Omega.{arith}
 use lib.ListN.{length, take, drop}
 use lib.Ieee.{Float}
-use Rattle.float.specs.Operators.{if◌then◌else◌, ◌≻◌}
+use Rattle.float.specs.Operators.{when◌then◌else◌, ◌≻◌}
 use Rattle.readings.specs.Readings.{Paid, within}
 use Rattle.readings.proofs.Laws.{within-pure, reading_stops, reading_fits}
 use Rattle.rows.specs.Rows.{rows_of, row_at}
@@ -23,11 +23,11 @@ pub record Turn (ε y : Float) (flat : List Float) (upto i rest : ℕ) (v : Inte
 
 module _ {ε y : Float} {flat : List Float} {upto i rest : ℕ} {v : Interval} {whole : Paid Cut} (turn : Turn ε y flat upto i rest v whole) where
   pub ends-crossed : upto ≤ i → v.low ≻ v.high ≡ true → SpannedIs.Empty rest ≡ spanned whole
-  unfolding interval if◌then◌else◌ spanned
+  unfolding interval when◌then◌else◌ spanned
   ends-crossed h e = ap spanned (sym (within-pure _ _) ∙ (rw (no_more flat upto i h, e) at turn.gives))
 
   pub ends : upto ≤ i → v.low ≻ v.high ≡ false → SpannedIs.Keep v rest ≡ spanned whole
-  unfolding interval if◌then◌else◌ spanned
+  unfolding interval when◌then◌else◌ spanned
   ends h e = ap spanned (sym (within-pure _ _) ∙ (rw (no_more flat upto i h, e) at turn.gives))
 
   module _ (before : i < upto) (fits : 3 * upto ≤ length flat) where

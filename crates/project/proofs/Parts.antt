@@ -4,7 +4,7 @@ use mathlib.Core.List.{List}
 use Prim.Native.Nat.{ℕ}
 use lib.ListN.{take}
 use lib.Ieee.{Float}
-use Rattle.float.specs.Operators.{if◌then◌else◌}
+use Rattle.float.specs.Operators.{when◌then◌else◌}
 use Rattle.readings.specs.Readings.{◌>>=◌, within}
 use Rattle.readings.proofs.Laws.{within-pure, goes_on, goes_no_further}
 use Rattle.rows.specs.declared.Row.{Row}
@@ -28,12 +28,12 @@ module _ (R : List Row) (upto : ℕ) (p : Point) (ε : Float) (left : ℕ)
   own_spent e = ap projected (sym (goes_no_further left _ _ (tells _ tried e)))
 
   pub own_works : {rest : ℕ} → own ≡ Pass rest → ProjectedIs.At p.x rest ≡ projected (within left (project R upto p ε))
-  unfolding project if◌then◌else◌ projected
+  unfolding project when◌then◌else◌ projected
   own_works e = ap projected (sym (goes_on left _ _ (tells _ tried e) ∙ within-pure _ _))
 
   module _ {rest : ℕ} (fails : own ≡ Fail rest) {span : Spanned} (found : span ≡ spanned (within rest (interval ε p.y (take upto R) everywhere))) where
     moved : within left (project R upto p ε) ≡ within rest (interval ε p.y (take upto R) everywhere >>= inside ε p.y (take upto R) p.x)
-    unfolding project if◌then◌else◌
+    unfolding project when◌then◌else◌
     moved = goes_on left _ _ (tells _ tried fails)
 
     pub span_spent : span ≡ SpannedIs.Spent → ProjectedIs.Spent ≡ projected (within left (project R upto p ε))

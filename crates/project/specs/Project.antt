@@ -2,7 +2,7 @@
 use Rattle.std.specs.Prelude.{ℕ, Bool, true, false, ◌&&◌, List, [], ◌∷◌, ◌++◌, take, Float}
 use Rattle.std.specs.Float.{inf}
 use Rattle.std.specs.Float.Ieee.{neg}
-use Rattle.float.specs.Operators.{if◌then◌else◌, ◌⊕◌, ◌⊗◌, ◌⊘◌, ◌≺◌, ◌≻◌}
+use Rattle.float.specs.Operators.{when◌then◌else◌, ◌⊕◌, ◌⊗◌, ◌⊘◌, ◌≺◌, ◌≻◌}
 use Rattle.float.specs.Float.{zero, finite, min, max}
 use Rattle.rounding.specs.Fused.{fused}
 use Rattle.readings.specs.Readings.{Counted, pure, read, ◌>>=◌, ◌>>◌, Paid, paid, stopped}
@@ -22,28 +22,28 @@ use Rattle.project.specs.declared.Projected.TheVariants as ProjectedIs
 
 -- x is finite, and every residual there is at most ε; an x that isn't finite takes no reading
 unfoldable pub works : Float → Float → List Row → Float → Counted Bool
-works ε y rows x = if finite x then every (meets ε (record { x = x; y = y })) rows else pure false
+works ε y rows x = when finite x then every (meets ε (record { x = x; y = y })) rows else pure false
 
 -- the first of some x that works
 unfoldable pub first_that_works : Float → Float → List Row → List Float → Counted Fixed
 first_that_works ε y rows [] = pure Nowhere
-first_that_works ε y rows (x ∷ xs) = let rest = first_that_works ε y rows xs in works ε y rows x >>= λ ok. if ok then pure (At x) else rest
+first_that_works ε y rows (x ∷ xs) = let rest = first_that_works ε y rows xs in works ε y rows x >>= λ ok. when ok then pure (At x) else rest
 
 -- the interval of x where a x ≤ rhs, within another
 unfoldable pub bounded : Float → Float → Interval → Cut
 bounded a rhs v =
-    if a ≻ zero then Keep (record { low = v.low; high = min v.high (rhs ⊘ a) })
-    else if a ≺ zero then Keep (record { low = max v.low (rhs ⊘ a); high = v.high })
-    else if rhs ≺ zero then Empty else Keep v
+    when a ≻ zero then Keep (record { low = v.low; high = min v.high (rhs ⊘ a) })
+    else when a ≺ zero then Keep (record { low = max v.low (rhs ⊘ a); high = v.high })
+    else when rhs ≺ zero then Empty else Keep v
 
 -- what a row leaves of an interval; nothing where a number is not finite
 unfoldable pub cut : Float → Float → Row → Interval → Cut
 cut ε y r v =
     let rhs = fused (neg r.b) y (r.c ⊕ ε) in
-    if finite r.a && finite r.b && finite r.c && finite rhs then bounded r.a rhs v else Empty
+    when finite r.a && finite r.b && finite r.c && finite rhs then bounded r.a rhs v else Empty
 
 unfoldable pub interval : Float → Float → List Row → Interval → Counted Cut
-interval ε y [] v = pure (if v.low ≻ v.high then Empty else Keep v)
+interval ε y [] v = pure (when v.low ≻ v.high then Empty else Keep v)
 interval ε y (r ∷ rs) v = read 1 >> (elim (cut ε y r v) as (λ _. Counted Cut) [ Empty ↦ pure Empty | Keep w ↦ interval ε y rs w ])
 
 unfoldable pub everywhere : Interval
@@ -51,7 +51,7 @@ everywhere = record { low = inf true; high = inf false }
 
 -- x moved into the interval, then its middle where both ends are finite, then its ends
 unfoldable pub middle : Interval → List Float
-middle v = if finite v.low && finite v.high then (half ⊗ v.low ⊕ half ⊗ v.high) ∷ [] else []
+middle v = when finite v.low && finite v.high then (half ⊗ v.low ⊕ half ⊗ v.high) ∷ [] else []
 
 unfoldable pub attempts : Float → Interval → List Float
 attempts x v = min (max x v.low) v.high ∷ middle v ++ v.low ∷ v.high ∷ []
@@ -65,7 +65,7 @@ unfoldable pub project : List Row → ℕ → Point → Float → Counted Fixed
 project R upto p ε =
     let rows = take upto R in
     let moved = interval ε p.y rows everywhere >>= inside ε p.y rows p.x in
-    works ε p.y rows p.x >>= λ ok. if ok then pure (At p.x) else moved
+    works ε p.y rows p.x >>= λ ok. when ok then pure (At p.x) else moved
 
 -- what the code gives back
 unfoldable pub spanned : Paid Cut → Spanned

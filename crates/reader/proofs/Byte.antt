@@ -7,7 +7,7 @@ use Prim.Native.Nat.{ℕ, ◌<◌}
 use native.Mathlib.Decide.{dec_le}
 use native.Mathlib.Omega.{arith}
 use borrow.Author.Tests.{eq-eqb, ne_eqb}
-use Rattle.float.specs.Operators.{if◌then◌else◌}
+use Rattle.float.specs.Operators.{when◌then◌else◌}
 use Rattle.reader.specs.Reader.{State, unfinished, placed, line_of, turned, ends, after, text}
 
 module _ (s : State) (b : ℕ) where
@@ -15,15 +15,15 @@ module _ (s : State) (b : ℕ) where
   lacking = unfinished (placed s b).link.passed (placed s b).head
 
   pub uncounted : s.link.left ≡ 0 → (ends s b ≡ false) × (after s b ≡ s) × (text s b ≡ [])
-  unfolding ends after text if◌then◌else◌
+  unfolding ends after text when◌then◌else◌
   uncounted none = rw (eq-eqb s.link.left 0 none) (refl, refl, refl)
 
   pub goes_on : 0 < s.link.left → lacking ≡ true → (ends s b ≡ false) × (after s b ≡ placed s b) × (text s b ≡ [])
-  unfolding ends after text if◌then◌else◌
+  unfolding ends after text when◌then◌else◌
   goes_on some u = rw (ne_eqb s.link.left 0 (λ none. omega arith), u) (refl, refl, refl)
 
   pub is_there : 0 < s.link.left → lacking ≡ false → (ends s b ≡ true) × (after s b ≡ turned (placed s b)) × (text s b ≡ line_of (placed s b))
-  unfolding ends after text if◌then◌else◌
+  unfolding ends after text when◌then◌else◌
   is_there some u = rw (ne_eqb s.link.left 0 (λ none. omega arith), u) (refl, refl, refl)
 
   -- what is so in each case is so

@@ -6,7 +6,7 @@ use Prim.Native.Nat.{ℕ, ◌≤◌}
 use native.Mathlib.Omega.{arith}
 use lib.Dec.{eqb}
 use borrow.Author.Tests.{eqb-true, eqb-false}
-use Rattle.float.specs.Operators.{if◌then◌else◌}
+use Rattle.float.specs.Operators.{when◌then◌else◌}
 use Rattle.record.specs.Sizes.{header_bytes, rows_at}
 use Rattle.record.specs.Record.{body_length, kind, size, refusal}
 use Rattle.record.proofs.Refusals.{solved-length, many-length}
@@ -14,11 +14,11 @@ use Rattle.reader.specs.Reader.{kept, keeps_rows}
 
 -- a number of bytes that goes by whether a refusal is 0, 2 or another
 by_number : (P : ℕ → Type 0) (number some few : ℕ) → (number ≡ 0 → P some) → (number ≡ 2 → P some)
-    → ((number ≡ 0 → ⊥) → (number ≡ 2 → ⊥) → P few) → P (if eqb number 0 || eqb number 2 then some else few)
-unfolding if◌then◌else◌
+    → ((number ≡ 0 → ⊥) → (number ≡ 2 → ⊥) → P few) → P (when eqb number 0 || eqb number 2 then some else few)
+unfolding when◌then◌else◌
 by_number P number some few solved many other = go (eqb number 0) refl (eqb number 2) refl
   where
-    go : (a : Bool) → eqb number 0 ≡ a → (b : Bool) → eqb number 2 ≡ b → P (if a || b then some else few)
+    go : (a : Bool) → eqb number 0 ≡ a → (b : Bool) → eqb number 2 ≡ b → P (when a || b then some else few)
     go true d b e = solved (eqb-true _ _ d)
     go false d true e = many (eqb-true _ _ e)
     go false d false e = other (eqb-false _ _ d) (eqb-false _ _ e)

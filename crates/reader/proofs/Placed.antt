@@ -12,7 +12,7 @@ use lib.Dec.{ltb}
 use lib.ListN.{length, set}
 use lib.Seq.{sets, sets-eq, take-set-le}
 use lib.Ieee.{Float}
-use Rattle.float.specs.Operators.{if◌then◌else◌}
+use Rattle.float.specs.Operators.{when◌then◌else◌}
 use Rattle.text.specs.Text.{written}
 use Rattle.record.specs.Sizes.{header_bytes, rows_at}
 use Rattle.record.specs.Record.{size}
@@ -53,13 +53,13 @@ module _ (link : Link) (head : List ℕ) (rows : List Float) (b : ℕ) where
   s = state link head rows
 
   placed-held : link.passed < kept head → placed s b ≡ state (onward link 1 link.word) (set head link.passed b) rows
-  unfolding state placed in_rows head_with word_with rows_with if◌then◌else◌
+  unfolding state placed in_rows head_with word_with rows_with when◌then◌else◌
   placed-held h =
       let early : link.passed < rows_at = omega (arith, (kept_between head).1) in
       rw (lt-ltb link.passed (kept head) h, lt-ltb link.passed rows_at early, and-false (keeps_rows head))
 
   placed_over : keeps_rows head ≡ false → kept head ≤ link.passed → placed s b ≡ state (onward link 1 link.word) head rows
-  unfolding state placed in_rows head_with word_with rows_with if◌then◌else◌
+  unfolding state placed in_rows head_with word_with rows_with when◌then◌else◌
   placed_over none h = rw (le-ltb link.passed (kept head) h, none)
 
   abbrev before : ℕ
@@ -67,7 +67,7 @@ module _ (link : Link) (head : List ℕ) (rows : List Float) (b : ℕ) where
 
   placed_row : keeps_rows head ≡ true → rows_at ≤ link.passed
       → placed s b ≡ state (onward link 1 (pushed before link.word b)) head (rows_in before link.word b rows)
-  unfolding state placed in_rows head_with word_with rows_with if◌then◌else◌
+  unfolding state placed in_rows head_with word_with rows_with when◌then◌else◌
   placed_row keeps h =
       let late : kept head ≤ link.passed = omega (arith, (kept_between head).1) in
       rw (le-ltb link.passed (kept head) late, keeps, le-ltb link.passed rows_at h)
@@ -149,7 +149,7 @@ module _ (link : Link) (head : List ℕ) (rows : List Float) (bytes : List ℕ) 
 
   pub fields_placed : (0 < length bytes → header_bytes ≤ p) → length bytes ≤ rows_at - p
       → s_all ≡ state (onward link (length bytes) link.word) (head_on p head bytes) rows
-  unfolding head_on if◌then◌else◌
+  unfolding head_on when◌then◌else◌
   fields_placed there within =
       elim (dec_le (kept head) p) [
         | yes past ↦ rw (le-ltb p (kept head) past) (passed_over link head rows bytes (λ some. (no_rows head (omega arith), past)))
@@ -162,7 +162,7 @@ module _ (link : Link) (head : List ℕ) (rows : List Float) (bytes : List ℕ) 
 
   pub rows-placed : (0 < length bytes → rows_at ≤ p)
       → s_all ≡ state (onward link (length bytes) (word_on p link.word head bytes)) head (rows_on p link.word head rows bytes)
-  unfolding word_on rows_on if◌then◌else◌
+  unfolding word_on rows_on when◌then◌else◌
   rows-placed late = go (keeps_rows head) refl
     where
       go : (keeps : Bool) → keeps_rows head ≡ keeps

@@ -11,7 +11,7 @@ use lib.Dec.{ltb}
 use lib.ListN.{length, take, drop, length-drop}
 use lib.Seq.{sets, take-add, length-take-le}
 use lib.Ieee.{Float}
-use Rattle.float.specs.Operators.{if◌then◌else◌}
+use Rattle.float.specs.Operators.{when◌then◌else◌}
 use Rattle.record.specs.Sizes.{header_bytes, rows_at}
 use Rattle.record.specs.Record.{size}
 use Rattle.reader.specs.declared.Link.{Link}
@@ -45,7 +45,7 @@ Reaches passed long end n = (n ≤ long) × (passed + n ≤ end) × (passed + n 
 
 up_to_end_lem : (s : State) (bytes : List ℕ) (n : ℕ) → s.link.passed < size s.head
     → Reaches s.link.passed (length bytes) (size (placed_all s (take n bytes)).head) n → placed_up s bytes ≡ placed_all s (take n bytes)
-unfolding placed_all placed_up if◌then◌else◌
+unfolding placed_all placed_up when◌then◌else◌
 up_to_end_lem s [] zero lack reach = refl
 up_to_end_lem s [] (suc n) lack reach = refl
 up_to_end_lem s (b ∷ bytes) zero lack reach = let none : 0 ≡ suc (length bytes) = reach.2 (omega arith) in absurd (omega arith)
@@ -74,7 +74,7 @@ fields_count passed head bytes n all = (omega arith, omega arith)
 
 rows-count : (passed : ℕ) (head bytes : List ℕ) (n : ℕ) → n ≡ of_rows passed head bytes
     → ((passed < rows_at) × (n ≡ 0)) ⊎ ((rows_at ≤ passed) × (n ≡ min (size head - passed) (length bytes)))
-unfolding of_rows if◌then◌else◌
+unfolding of_rows when◌then◌else◌
 rows-count passed head bytes n all =
     elim (dec_le rows_at passed) [
       | yes late ↦ inr (late, rw (le-ltb passed rows_at late) at all)

@@ -8,7 +8,7 @@ use native.Mathlib.Numerals.{one-add}
 use native.Mathlib.Omega.{arith}
 use lib.ListN.{length, take}
 use lib.Seq.{take-nil}
-use Rattle.float.specs.Operators.{if◌then◌else◌}
+use Rattle.float.specs.Operators.{when◌then◌else◌}
 use Rattle.reader.specs.Reader.{State, state, unfinished, placed, line_of, turned, ends, after, text, after_all, texts, up_to_end}
 use Rattle.reader.specs.Parts.{placed_up}
 use Rattle.gather.proofs.Choice.{either}
@@ -43,11 +43,11 @@ module _ (s : State) (b : ℕ) (bytes : List ℕ) where
   up_none none = rw none
 
   up_on : 0 < s.link.left → lacking s b ≡ true → up s (b ∷ bytes) ≡ up (placed s b) bytes
-  unfolding state placed placed_up if◌then◌else◌
+  unfolding state placed placed_up when◌then◌else◌
   up_on some u = rw (next_byte s.link.left b bytes some, u)
 
   up_there : 0 < s.link.left → lacking s b ≡ false → up s (b ∷ bytes) ≡ placed s b
-  unfolding placed_up if◌then◌else◌
+  unfolding placed_up when◌then◌else◌
   up_there some u = rw (next_byte s.link.left b bytes some, u)
 
 -- all of it is taken, leaves u and prints nothing
@@ -60,7 +60,7 @@ unfolding after_all texts
 silent s b bytes left none = (rw left, rw (none, left))
 
 behind_it : (s : State) (b : ℕ) (bytes : List ℕ) (t u : State) → (ends s b ≡ false) × (after s b ≡ t) × (text s b ≡ []) → Part t bytes u → Part s (b ∷ bytes) u
-unfolding after_all texts up_to_end if◌then◌else◌
+unfolding after_all texts up_to_end when◌then◌else◌
 behind_it s b bytes t u one rest = rw (one.0, one.1, one.2, one-add) (ap suc rest.0, rest.1, rest.2)
 
 idle : (s : State) (bytes : List ℕ) → s.link.left ≡ 0 → Part s bytes s
@@ -85,7 +85,7 @@ abbrev Ends : State → List ℕ → State → ℕ → Type 0
 Ends s bytes u n = (s.link.passed + n ≡ u.link.passed) × (after_all s (take n bytes) ≡ turned u) × (texts s (take n bytes) ≡ line_of u)
 
 pub whole-turn : (s : State) (bytes : List ℕ) → lacks_some s ≡ true → lacks_some (up s bytes) ≡ false → Ends s bytes (up s bytes) (up_to_end s bytes)
-unfolding state placed placed_up after_all texts up_to_end if◌then◌else◌
+unfolding state placed placed_up after_all texts up_to_end when◌then◌else◌
 whole-turn s [] begun whole = absurd (true≢false (sym begun ∙ rw (take-nil {A = ℕ} s.link.left) at whole))
 whole-turn s (b ∷ bytes) begun whole =
     by_case s b (Ends s (b ∷ bytes) (up s (b ∷ bytes)) (up_to_end s (b ∷ bytes)))

@@ -1,7 +1,7 @@
 -- Bytes that take their places one after the other: what the reader's inner functions do at once. Assumes nothing.
 use Rattle.std.specs.Prelude.{ℕ, ◌-◌, min, List, [], ◌∷◌, ltb, length, Float}
 use Rattle.std.proofs.lemmas.List.Edits.{sets}
-use Rattle.float.specs.Operators.{if◌then◌else◌}
+use Rattle.float.specs.Operators.{when◌then◌else◌}
 use Rattle.record.specs.Sizes.{header_bytes, rows_at}
 use Rattle.record.specs.Record.{size}
 use Rattle.gather.specs.Gather.{word_all, rows_all}
@@ -10,15 +10,15 @@ use Rattle.reader.specs.Reader.{State, unfinished, kept, keeps_rows, placed}
 -- ---- of rows, where they are held
 
 unfoldable pub word_on : ℕ → ℕ → List ℕ → List ℕ → ℕ
-word_on passed word head bytes = if keeps_rows head then word_all (passed - rows_at) word bytes else word
+word_on passed word head bytes = when keeps_rows head then word_all (passed - rows_at) word bytes else word
 
 unfoldable pub rows_on : ℕ → ℕ → List ℕ → List Float → List ℕ → List Float
-rows_on passed word head rows bytes = if keeps_rows head then rows_all (passed - rows_at) word rows bytes else rows
+rows_on passed word head rows bytes = when keeps_rows head then rows_all (passed - rows_at) word rows bytes else rows
 
 -- ---- of the fields, where they are held
 
 unfoldable pub head_on : ℕ → List ℕ → List ℕ → List ℕ
-head_on passed head bytes = if ltb passed (kept head) then sets head passed bytes else head
+head_on passed head bytes = when ltb passed (kept head) then sets head passed bytes else head
 
 -- ---- how many belong to which part of a record of which some have passed
 
@@ -31,7 +31,7 @@ of_fields passed head bytes = min (min rows_at (size head) - passed) (length byt
 
 -- once all before the rows is there
 unfoldable pub of_rows : ℕ → List ℕ → List ℕ → ℕ
-of_rows passed head bytes = if ltb passed rows_at then 0 else min (size head - passed) (length bytes)
+of_rows passed head bytes = when ltb passed rows_at then 0 else min (size head - passed) (length bytes)
 
 -- ---- of a record
 
@@ -45,4 +45,4 @@ placed_up s [] = s
 placed_up s (b ∷ bytes) =
     let t = placed s b in
     let more = placed_up t bytes in
-    if unfinished t.link.passed t.head then more else t
+    when unfinished t.link.passed t.head then more else t

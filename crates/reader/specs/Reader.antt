@@ -1,6 +1,6 @@
 -- A reader of records that come a few bytes at a time: what it holds, what one byte does to it, and what is printed. Assumes nothing.
 use Rattle.std.specs.Prelude.{ℕ, ◌+◌, ◌-◌, ◌^◌, min, Bool, not, ◌||◌, ◌&&◌, List, [], ◌∷◌, ◌++◌, eqb, ltb, length, take, set, Float}
-use Rattle.float.specs.Operators.{if◌then◌else◌}
+use Rattle.float.specs.Operators.{when◌then◌else◌}
 use Rattle.solve.specs.declared.Outcome.TheVariants.{Refused}
 use Rattle.text.specs.Sizes.{longest_line}
 use Rattle.text.specs.Lines.{outcome_line, end_line}
@@ -40,7 +40,7 @@ listening link head = eqb link.live 1 && not (ltb most_bytes (link.lines + link.
 unfoldable pub kept : List ℕ → ℕ
 kept head =
     let number = refusal (kind head) (body_length head) 0 in
-    if eqb number 0 || eqb number 2 then rows_at else header_bytes
+    when eqb number 0 || eqb number 2 then rows_at else header_bytes
 
 -- and the rows of one to be solved
 unfoldable pub keeps_rows : List ℕ → Bool
@@ -53,13 +53,13 @@ unfoldable pub in_rows : State → Bool
 in_rows s = keeps_rows s.head && not (ltb s.link.passed rows_at)
 
 unfoldable pub head_with : State → ℕ → List ℕ
-head_with s b = if ltb s.link.passed (kept s.head) then set s.head s.link.passed b else s.head
+head_with s b = when ltb s.link.passed (kept s.head) then set s.head s.link.passed b else s.head
 
 unfoldable pub word_with : State → ℕ → ℕ
-word_with s b = if in_rows s then pushed (s.link.passed - rows_at) s.link.word b else s.link.word
+word_with s b = when in_rows s then pushed (s.link.passed - rows_at) s.link.word b else s.link.word
 
 unfoldable pub rows_with : State → ℕ → List Float
-rows_with s b = if in_rows s then rows_in (s.link.passed - rows_at) s.link.word b s.rows else s.rows
+rows_with s b = when in_rows s then rows_in (s.link.passed - rows_at) s.link.word b s.rows else s.rows
 
 unfoldable pub placed : State → ℕ → State
 placed s b =
@@ -91,10 +91,10 @@ ends s b = let t = placed s b in not (eqb s.link.left 0) && not (unfinished t.li
 unfoldable pub after : State → ℕ → State
 after s b =
     let t = placed s b in
-    if ends s b then turned t else if eqb s.link.left 0 then s else t
+    when ends s b then turned t else when eqb s.link.left 0 then s else t
 
 unfoldable pub text : State → ℕ → List ℕ
-text s b = if ends s b then line_of (placed s b) else []
+text s b = when ends s b then line_of (placed s b) else []
 
 -- ---- bytes, one after the other
 
@@ -111,22 +111,22 @@ texts s (b ∷ bytes) = text s b ++ texts (after s b) bytes
 -- up to the first record's end, or all
 unfoldable pub up_to_end : State → List ℕ → ℕ
 up_to_end s [] = 0
-up_to_end s (b ∷ bytes) = let more = up_to_end (after s b) bytes in if ends s b then 1 else 1 + more
+up_to_end s (b ∷ bytes) = let more = up_to_end (after s b) bytes in when ends s b then 1 else 1 + more
 
 -- as long as there is room for a line
 unfoldable pub up_to_room : ℕ → State → List ℕ → ℕ
 up_to_room room s [] = 0
-up_to_room room s (b ∷ bytes) = let more = up_to_room (room - length (text s b)) (after s b) bytes in if ltb room longest_line then 0 else 1 + more
+up_to_room room s (b ∷ bytes) = let more = up_to_room (room - length (text s b)) (after s b) bytes in when ltb room longest_line then 0 else 1 + more
 
 -- none where the reader does not listen, so that nothing changes and nothing is printed
 unfoldable pub taken : Link → List ℕ → List Float → List ℕ → ℕ
-taken link head rows bytes = if listening link head then up_to_end (state link head rows) bytes else 0
+taken link head rows bytes = when listening link head then up_to_end (state link head rows) bytes else 0
 
 unfoldable pub taken_in : ℕ → Link → List ℕ → List Float → List ℕ → ℕ
-taken_in room link head rows bytes = if listening link head then up_to_room room (state link head rows) bytes else 0
+taken_in room link head rows bytes = when listening link head then up_to_room room (state link head rows) bytes else 0
 
 unfoldable pub refusal_of : Link → List ℕ → ℕ
-refusal_of link head = if listening link head then 0 else 12
+refusal_of link head = when listening link head then 0 else 12
 
 -- ---- what the first n bytes of a portion leave, and what they print
 
@@ -141,13 +141,13 @@ said link head rows n bytes = texts (state link head rows) (take n bytes)
 unfoldable pub last_text : Link → List ℕ
 last_text link =
     let cut = outcome_line (link.lines + 1) (Refused 8) ++ end_line (link.lines + 1) in
-    if eqb link.passed 0 then end_line link.lines else cut
+    when eqb link.passed 0 then end_line link.lines else cut
 
 unfoldable pub closed : Link → Link
 closed link = record { live = 0; lines = link.lines; left = link.left; passed = link.passed; word = link.word }
 
 unfoldable pub end_text : Link → List ℕ → List ℕ
-end_text link head = if listening link head then last_text link else []
+end_text link head = when listening link head then last_text link else []
 
 unfoldable pub ended : Link → List ℕ → Link
-ended link head = if listening link head then closed link else link
+ended link head = when listening link head then closed link else link

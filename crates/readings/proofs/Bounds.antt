@@ -2,7 +2,7 @@
 use mathlib.Core.Bool.{Bool, true, false}
 use Prim.Native.Nat.{ℕ, ◌+◌, ◌≤◌}
 use native.Mathlib.Omega.{arith}
-use Rattle.float.specs.Operators.{if◌then◌else◌}
+use Rattle.float.specs.Operators.{when◌then◌else◌}
 use Rattle.readings.specs.Readings.{Counted, pure, read, ◌>>=◌, ◌>>◌}
 
 infix 4 ◌at_most◌
@@ -22,8 +22,8 @@ module _ {A : Type 0} where
   unfolding read ◌>>◌
   read_takes k h = omega arith
 
-  pub if_takes : (b : Bool) {m n : Counted A} {x : ℕ} → m at_most x → n at_most x → (if b then m else n) at_most x
-  unfolding if◌then◌else◌
+  pub if_takes : (b : Bool) {m n : Counted A} {x : ℕ} → m at_most x → n at_most x → (when b then m else n) at_most x
+  unfolding when◌then◌else◌
   if_takes true h k = h
   if_takes false h k = k
 

@@ -2,7 +2,7 @@
 use mathlib.Core.Path.{◌≡◌, subst}
 use mathlib.Core.Bool.{Bool, true, false}
 use Prim.Native.Nat.{ℕ}
-use Rattle.float.specs.Operators.{if◌then◌else◌}
+use Rattle.float.specs.Operators.{when◌then◌else◌}
 use Rattle.readings.specs.Readings.{Counted, pure, read, ◌>>=◌, ◌>>◌, paid, within}
 use Rattle.readings.proofs.Laws.{was_paid}
 
@@ -11,8 +11,8 @@ pub record ◌gives◌ {A : Type 0} (m : Counted A) (P : A → Type 0) : Type 0 
   pub has : P m.value
 
 -- what both of two values have, a choice between them has
-pub either : {A : Type 0} (P : A → Type 0) (b : Bool) {x y : A} → P x → P y → P (if b then x else y)
-unfolding if◌then◌else◌
+pub either : {A : Type 0} (P : A → Type 0) (b : Bool) {x y : A} → P x → P y → P (when b then x else y)
+unfolding when◌then◌else◌
 either P true h k = h
 either P false h k = k
 
@@ -25,7 +25,7 @@ module _ {A : Type 0} {P : A → Type 0} where
   unfolding ◌>>◌
   read_gives k h = record { has = h.has }
 
-  pub if_gives : (b : Bool) {m n : Counted A} → m gives P → n gives P → (if b then m else n) gives P
+  pub if_gives : (b : Bool) {m n : Counted A} → m gives P → n gives P → (when b then m else n) gives P
   if_gives b h k = either (λ m. m gives P) b h k
 
   -- what is left of it within an allowance has it too

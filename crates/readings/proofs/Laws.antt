@@ -5,7 +5,7 @@ use Prim.Native.Nat.{ℕ, ◌-◌, ◌≤◌, ◌<◌}
 use native.Mathlib.Omega.{arith}
 use lib.Dec.{leb}
 use borrow.Author.Tests.{le-leb, lt-leb, leb-true, leb-false}
-use Rattle.float.specs.Operators.{if◌then◌else◌}
+use Rattle.float.specs.Operators.{when◌then◌else◌}
 use Rattle.readings.specs.Readings.{Counted, pure, read, ◌>>=◌, ◌>>◌, Paid, paid, stopped, within}
 
 -- what `cc` makes of two different constructors that are said to be equal
@@ -23,11 +23,11 @@ undoing shown told undone p gave is = undone p ∙ ap told (sym gave ∙ is)
 
 module _ {A : Type 0} (l : ℕ) (m : Counted A) where
   pub within_fits : m.readings ≤ l → within l m ≡ paid m.value (l - m.readings)
-  unfolding within if◌then◌else◌
+  unfolding within when◌then◌else◌
   within_fits h = rw (le-leb m.readings l h)
 
   pub within_stops : l < m.readings → within l m ≡ stopped
-  unfolding within if◌then◌else◌
+  unfolding within when◌then◌else◌
   within_stops h = rw (lt-leb m.readings l h)
 
   -- and back again

@@ -1,6 +1,6 @@
 -- A value with the number of readings that it takes, and what is left of it within an allowance. Assumes nothing.
 use Rattle.std.specs.Prelude.{ℕ, ◌+◌, ◌-◌, leb}
-use Rattle.float.specs.Operators.{if◌then◌else◌}
+use Rattle.float.specs.Operators.{when◌then◌else◌}
 
 infixl 10 ◌>>=◌ ◌>>◌
 pub record Counted (A : Type 0) : Type 0 where
@@ -28,4 +28,4 @@ pub data Paid (A : Type 0) : Type 0 where
   stopped : Paid A
 
 unfoldable pub within : {A : Type 0} → ℕ → Counted A → Paid A
-within left m = if leb m.readings left then paid m.value (left - m.readings) else stopped
+within left m = when leb m.readings left then paid m.value (left - m.readings) else stopped

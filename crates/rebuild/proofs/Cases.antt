@@ -5,7 +5,7 @@ use mathlib.Core.List.{List}
 use Prim.Native.Nat.{ℕ, ◌-◌, ◌≤◌, ◌<◌}
 use lib.ListN.{take}
 use lib.Ieee.{Float}
-use Rattle.float.specs.Operators.{if◌then◌else◌, ◌≈◌}
+use Rattle.float.specs.Operators.{when◌then◌else◌, ◌≈◌}
 use Rattle.readings.specs.Readings.{pure, Paid, paid, within}
 use Rattle.readings.proofs.Laws.{within-pure, reading_stops, reading_fits, goes_on, goes_no_further}
 use Rattle.rows.specs.declared.Row.{Row}
@@ -42,26 +42,26 @@ module _ (R : List Row) (F : Frame) (upto i : ℕ) (s : State) (left : ℕ) wher
     test_spent e = sym (ap stepped (goes_no_further left _ _ (of-scan.tells _ scan e)))
 
     pub test_fails : {l : ℕ} → answer ≡ ScanIs.Fail l → Failed l ≡ stepped testing
-    unfolding tested stepped if◌then◌else◌
+    unfolding tested stepped when◌then◌else◌
     test_fails {l} e = sym (ap stepped (goes_on left _ _ (of-scan.tells _ scan e) ∙ within-pure l FoundIs.Failed))
 
     module _ {l : ℕ} (e : answer ≡ ScanIs.Pass l) where
       pub test_short : l < 2 → Spent ≡ stepped testing
-      unfolding tested stepped if◌then◌else◌
+      unfolding tested stepped when◌then◌else◌
       test_short h = sym (ap stepped (goes_on left _ _ (of-scan.tells _ scan e) ∙ reading_stops l 2 _ h))
 
       module _ (enough : 2 ≤ l) where
-        checked : stepped (paid (if supports R F i s.at s.active then FoundIs.Done s else FoundIs.Failed) (l - 2)) ≡ stepped testing
-        unfolding tested if◌then◌else◌
+        checked : stepped (paid (when supports R F i s.at s.active then FoundIs.Done s else FoundIs.Failed) (l - 2)) ≡ stepped testing
+        unfolding tested when◌then◌else◌
         checked = sym (ap stepped (goes_on left _ _ (of-scan.tells _ scan e) ∙ reading_fits l 2 _ enough ∙ within-pure (l - 2) _))
 
         module _ {ok : Bool} (check : ok ≡ supports R F i s.at s.active) where
           pub test_passes : ok ≡ true → Done s (l - 2) ≡ stepped testing
-          unfolding stepped if◌then◌else◌
+          unfolding stepped when◌then◌else◌
           test_passes d = rw (← check, d) at checked
 
           pub test_unsupported : ok ≡ false → Failed (l - 2) ≡ stepped testing
-          unfolding stepped if◌then◌else◌
+          unfolding stepped when◌then◌else◌
           test_unsupported d = rw (← check, d) at checked
 
 module _ (R : List Row) (F : Frame) (upto : ℕ) (seed : Point) (floor : Float) (i : ℕ) (r : Row) where
@@ -90,19 +90,19 @@ module _ (R : List Row) (F : Frame) (upto : ℕ) (seed : Point) (floor : Float) 
 
       module _ {ok : Bool} (test : ok ≡ plausible F seed.y floor r s.at) where
         pub try_implausible : ok ≡ false → Failed l ≡ stepped (trying left)
-        unfolding qualified stepped if◌then◌else◌
+        unfolding qualified stepped when◌then◌else◌
         try_implausible d = sym (ap stepped (within-pure l FoundIs.Failed)) ∙ (rw (← test, d) at pinned)
 
         pub try_tested : ok ≡ true → {act : Active} → act ≡ ordered s.active
             → stepped (within l (tested R F upto i (record { at = s.at; active = act }))) ≡ stepped (trying left)
-        unfolding qualified if◌then◌else◌
+        unfolding qualified when◌then◌else◌
         try_tested d order = rw order (rw (← test, d) at pinned)
 
   -- ---- a row's turn, after its candidate's answer
 
   module _ (best : Found) (left : ℕ) where
     abbrev picking : Paid Found
-    picking = within left (if no_boundary r then pure FoundIs.Failed else candidate R F upto seed floor i r)
+    picking = within left (when no_boundary r then pure FoundIs.Failed else candidate R F upto seed floor i r)
 
     abbrev turning : Paid Turn
     turning = within left (turn R F upto seed floor i r best)
@@ -113,12 +113,12 @@ module _ (R : List Row) (F : Frame) (upto : ℕ) (seed : Point) (floor : Float) 
 
     module _ {free : Bool} (test : free ≡ no_boundary r) where
       pub turn_passed : free ≡ true → TurnedIs.On best left ≡ turned turning
-      unfolding judge turned if◌then◌else◌
+      unfolding judge turned when◌then◌else◌
       turn_passed e = judged {found = FoundIs.Failed} {l = left} (rw (← test, e) (within-pure left _))
 
       module _ (some : free ≡ false) {answer : Stepped} (try : answer ≡ stepped (trying left)) where
         picked : picking ≡ trying left
-        unfolding if◌then◌else◌
+        unfolding when◌then◌else◌
         picked = rw (← test, some)
 
         pub turn_spent : answer ≡ Spent → TurnedIs.Spent ≡ turned turning
@@ -131,9 +131,9 @@ module _ (R : List Row) (F : Frame) (upto : ℕ) (seed : Point) (floor : Float) 
 
         module _ {s : State} {l : ℕ} (e : answer ≡ Done s l) where
           pub turn_won : s.at.y ≈ seed.y ≡ true → TurnedIs.Won s l ≡ turned turning
-          unfolding judge turned if◌then◌else◌
+          unfolding judge turned when◌then◌else◌
           turn_won d = rw d at (judged (picked ∙ of-step.tells _ try e))
 
           pub turn-better : s.at.y ≈ seed.y ≡ false → TurnedIs.On (better s best) l ≡ turned turning
-          unfolding judge turned if◌then◌else◌
+          unfolding judge turned when◌then◌else◌
           turn-better d = rw d at (judged (picked ∙ of-step.tells _ try e))

@@ -1,6 +1,6 @@
 -- `rebuild_2d_prefix`: another boundary. What a candidate must meet stands apart from the search for the best. Assumes nothing.
 use Rattle.std.specs.Prelude.{ℕ, ◌+◌, Bool, not, ◌&&◌, List, [], ◌∷◌, take, Float}
-use Rattle.float.specs.Operators.{if◌then◌else◌, ◌≺◌, ◌≻◌, ◌≈◌}
+use Rattle.float.specs.Operators.{when◌then◌else◌, ◌≺◌, ◌≻◌, ◌≈◌}
 use Rattle.float.specs.Float.{finite}
 use Rattle.readings.specs.Readings.{Counted, pure, read, ◌>>=◌, ◌>>◌, Paid, paid, stopped}
 use Rattle.rows.specs.declared.Row.{Row}
@@ -40,11 +40,11 @@ plausible F top floor r p = finite p.x && finite p.y && not (p.y ≺ floor) && n
 unfoldable pub tested : List Row → Frame → ℕ → ℕ → State → Counted Found
 tested R F upto i s =
     every (not_above F.epsilon s.at) (take upto R) >>= λ ok.
-    if ok then (read 2 >> pure (if supports R F i s.at s.active then Done s else Failed)) else pure Failed
+    when ok then (read 2 >> pure (when supports R F i s.at s.active then Done s else Failed)) else pure Failed
 
 unfoldable pub qualified : List Row → Frame → ℕ → Point → Float → ℕ → Row → State → Counted Found
 qualified R F upto seed floor i r s =
-    if plausible F seed.y floor r s.at then tested R F upto i (record { at = s.at; active = ordered s.active }) else pure Failed
+    when plausible F seed.y floor r s.at then tested R F upto i (record { at = s.at; active = ordered s.active }) else pure Failed
 
 -- the best point on the boundary of row i, where it qualifies
 unfoldable pub candidate : List Row → Frame → ℕ → Point → Float → ℕ → Row → Counted Found
@@ -55,16 +55,16 @@ candidate R F upto seed floor i r = step R F upto i (record { at = seed; active 
 -- the higher of two; the earlier of two at one level
 unfoldable pub better : State → Found → Found
 better s Failed = Done s
-better s (Done t) = if s.at.y ≻ t.at.y then Done s else Done t
+better s (Done t) = when s.at.y ≻ t.at.y then Done s else Done t
 
 -- a candidate on the level of the seed wins
 unfoldable pub judge : Float → Found → Found → Turn
 judge top best Failed = On best
-judge top best (Done s) = if s.at.y ≈ top then Won s else On (better s best)
+judge top best (Done s) = when s.at.y ≈ top then Won s else On (better s best)
 
 -- a row without a boundary is passed over, and takes no reading
 unfoldable pub turn : List Row → Frame → ℕ → Point → Float → ℕ → Row → Found → Counted Turn
-turn R F upto seed floor i r best = (if no_boundary r then pure Failed else candidate R F upto seed floor i r) >>= λ c. pure (judge seed.y best c)
+turn R F upto seed floor i r best = (when no_boundary r then pure Failed else candidate R F upto seed floor i r) >>= λ c. pure (judge seed.y best c)
 
 -- the best candidate of the rows from row i on
 unfoldable pub rebuild : List Row → Frame → ℕ → Point → Float → List Row → ℕ → Found → Counted Found

@@ -1,7 +1,7 @@
 -- `active_basis_supports_max_y`: the active rows hold the point up. Assumes nothing.
 use Rattle.std.specs.Prelude.{ℕ, Bool, false, not, ◌&&◌, ◌||◌, List, eqb, Float}
 use Rattle.std.specs.Float.Ieee.{neg}
-use Rattle.float.specs.Operators.{if◌then◌else◌, ◌⊘◌, ◌≺◌, ◌≼◌, ◌≻◌, ◌≈◌}
+use Rattle.float.specs.Operators.{when◌then◌else◌, ◌⊘◌, ◌≺◌, ◌≼◌, ◌≻◌, ◌≈◌}
 use Rattle.float.specs.Float.{zero, abs, finite}
 use Rattle.rows.specs.declared.Row.{Row}
 use Rattle.rows.specs.declared.Point.{Point}
@@ -24,7 +24,7 @@ unfoldable pub factors : Float → Float → Bool
 factors u v = finite u && finite v && (zero ≼ u && zero ≼ v)
 
 unfoldable pub together : Row → Row → Bool
-together r s = let d = determinant r s in if singular r s then false else factors (neg s.a ⊘ d) (r.a ⊘ d)
+together r s = let d = determinant r s in when singular r s then false else factors (neg s.a ⊘ d) (r.a ⊘ d)
 
 -- the pinned row is among them, and p lies on the boundary of each
 unfoldable pub one_supports : Frame → ℕ → Point → ℕ → Row → Bool
@@ -32,7 +32,7 @@ one_supports F pinned p i r = eqb pinned i && on_boundary F p r && alone F.bound
 
 unfoldable pub two_support : Frame → ℕ → Point → ℕ → ℕ → Row → Row → Bool
 two_support F pinned p i j r s =
-    (eqb pinned i || eqb pinned j) && on_boundary F p r && on_boundary F p s && (if eqb i j then alone F.bound p r else together r s)
+    (eqb pinned i || eqb pinned j) && on_boundary F p r && on_boundary F p s && (when eqb i j then alone F.bound p r else together r s)
 
 unfoldable pub supported_by : List Row → Frame → ℕ → Point → Slot → Slot → Bool
 supported_by R F pinned p NoRow second = false

@@ -5,7 +5,7 @@ use Prim.Native.Nat.{ℕ, ◌-◌, ◌*◌, ◌/◌, ◌%◌, ◌≤◌}
 use native.Mathlib.Omega.{arith}
 use lib.Dec.{eqb, ltb}
 use borrow.Author.Tests.{ltb-false, eqb-true, not-false}
-use Rattle.float.specs.Operators.{if◌then◌else◌}
+use Rattle.float.specs.Operators.{when◌then◌else◌}
 use Rattle.float.proofs.Order.{neither}
 use Rattle.record.specs.Sizes.{field_bytes, row_bytes, record_rows, most_floats}
 use Rattle.record.specs.Record.{refusal}
@@ -13,31 +13,31 @@ use Rattle.record.specs.Record.{refusal}
 -- ---- a refusal by its three tests
 
 abbrev chosen : Bool → Bool → Bool → ℕ
-chosen a b c = if a then 9 else if b then 10 else if c then 2 else 0
+chosen a b c = when a then 9 else when b then 10 else when c then 2 else 0
 
 was_0 : (a b c : Bool) → chosen a b c ≡ 0 → (b ≡ false) × (c ≡ false)
-unfolding if◌then◌else◌
+unfolding when◌then◌else◌
 was_0 true b c e = absurd (omega arith)
 was_0 false true c e = absurd (omega arith)
 was_0 false false true e = absurd (omega arith)
 was_0 false false false e = (refl, refl)
 
 was_2 : (a b c : Bool) → chosen a b c ≡ 2 → b ≡ false
-unfolding if◌then◌else◌
+unfolding when◌then◌else◌
 was_2 true b c e = absurd (omega arith)
 was_2 false true c e = absurd (omega arith)
 was_2 false false c e = refl
 
 -- the second test is made of two, of which the other one fails
 without : (a b x c : Bool) → chosen a (b || x) c ≡ 0 → chosen a (b || false) c ≡ 0
-unfolding if◌then◌else◌
+unfolding when◌then◌else◌
 without true b x c e = e
 without false true x c e = e
 without false false true c e = absurd (omega arith)
 without false false false c e = e
 
 either_way : (a b x c : Bool) → (chosen a (b || false) c ≡ 0 → ⊥) → (chosen a (b || false) c ≡ 2 → ⊥) → chosen a (b || x) c ≡ chosen a (b || false) c
-unfolding if◌then◌else◌
+unfolding when◌then◌else◌
 either_way true b x c not0 not2 = refl
 either_way false true x c not0 not2 = refl
 either_way false false x true not0 not2 = absurd (not2 refl)

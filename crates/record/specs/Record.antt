@@ -1,6 +1,6 @@
 -- A record of RULES 12: a header, the body's length and the kind, and a body; and what comes of it. Assumes nothing.
 use Rattle.std.specs.Prelude.{ℕ, ◌+◌, ◌-◌, ◌/◌, ◌%◌, not, ◌||◌, List, ◌++◌, eqb, ltb, take, drop, Float}
-use Rattle.float.specs.Operators.{if◌then◌else◌}
+use Rattle.float.specs.Operators.{when◌then◌else◌}
 use Rattle.once.specs.declared.Normalize.{Normalize}
 use Rattle.once.specs.declared.Normalize.TheVariants.{Off, Source}
 use Rattle.once.specs.declared.Task.{Task}
@@ -28,7 +28,7 @@ unfoldable pub normalize_byte : List ℕ → ℕ
 normalize_byte bytes = field 1 54 bytes
 
 unfoldable pub mode : ℕ → Normalize
-mode byte = if eqb byte 0 then Off else Source
+mode byte = when eqb byte 0 then Off else Source
 
 unfoldable pub task : List ℕ → Task
 task bytes =
@@ -53,9 +53,9 @@ row_floats bytes = floats (float_count bytes) (drop rows_at bytes)
 -- refusals 9, 10 and 2, in that order, by the kind, the body's length and the normalise byte; 0 where there is something to solve
 unfoldable pub refusal : ℕ → ℕ → ℕ → ℕ
 refusal kind length byte =
-    if not (eqb kind 1) then 9
-    else if ltb length field_bytes || not (eqb ((length - field_bytes) % row_bytes) 0) || ltb 1 byte then 10
-    else if ltb record_rows ((length - field_bytes) / row_bytes) then 2
+    when not (eqb kind 1) then 9
+    else when ltb length field_bytes || not (eqb ((length - field_bytes) % row_bytes) 0) || ltb 1 byte then 10
+    else when ltb record_rows ((length - field_bytes) / row_bytes) then 2
     else 0
 
 -- what comes of a record by the bytes before its rows and by the floats of its rows, behind which others may stand: a refusal, which leaves all floats
@@ -65,7 +65,7 @@ answered head floats =
     let number = refusal (kind head) (body_length head) (normalize_byte head) in
     let n = float_count head in
     let solved = solve (task head) (allowance head) (take n floats) in
-    if eqb number 0 then record { outcome = solved.outcome; rows = solved.rows ++ drop n floats } else record { outcome = Refused number; rows = floats }
+    when eqb number 0 then record { outcome = solved.outcome; rows = solved.rows ++ drop n floats } else record { outcome = Refused number; rows = floats }
 
 unfoldable pub outcome : List ℕ → Outcome
 outcome bytes = (answered bytes (row_floats bytes)).outcome

@@ -6,7 +6,7 @@ use native.Mathlib.Omega.{arith}
 use borrow.Author.Tests.{eq-eqb, ne_eqb, lt-ltb, le-ltb}
 use lib.ListN.{length}
 use lib.Ieee.{Float}
-use Rattle.float.specs.Operators.{if◌then◌else◌}
+use Rattle.float.specs.Operators.{when◌then◌else◌}
 use Rattle.readings.specs.Readings.{paid, within}
 use Rattle.readings.proofs.Laws.{was_paid, was_stopped}
 use Rattle.rows.specs.declared.Point.{Point}
@@ -40,12 +40,12 @@ module _ (flat : List Float) (upto : ℕ) (p : Point) (F : Frame) (coll : Collec
 
   module _ {number : ℕ} (refusing : number ≡ refusal 3 (length flat)) where
     pub entry_refuses : (number ≡ 0 → ⊥) → Refused number ≡ entry
-    unfolding recovering if◌then◌else◌
+    unfolding recovering when◌then◌else◌
     entry_refuses h = rw (← refusing, ne_eqb _ _ h)
 
     module _ (accepted : number ≡ 0) where
       pub prefix_too_long : length flat / 3 < upto → Refused 7 ≡ entry
-      unfolding recovering if◌then◌else◌
+      unfolding recovering when◌then◌else◌
       prefix_too_long h = rw (← refusing, eq-eqb _ _ accepted, lt-ltb _ _ h)
 
       module _ (inside : upto ≤ length flat / 3) {begun : State} (begins : begun ≡ start)
@@ -54,7 +54,7 @@ module _ (flat : List Float) (upto : ℕ) (p : Point) (F : Frame) (coll : Collec
         recovery = rw begins at call
 
         finds : {found : Found} {l : ℕ} → within most (recover (rows_of flat) F upto start) ≡ paid found l → recovered coll found ≡ entry
-        unfolding recovering if◌then◌else◌
+        unfolding recovering when◌then◌else◌
         finds e = rw (← refusing, eq-eqb _ _ accepted, le-ltb _ _ inside) (ap (recovered coll) (sym (was_paid _ _ e).1))
 
         pub entry_finds : {t : State} {l : ℕ} → answer ≡ Done t l → At t.at (collected coll t.active) ≡ entry

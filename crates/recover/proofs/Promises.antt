@@ -7,7 +7,7 @@ use native.Mathlib.Omega.{arith}
 use borrow.Author.Tests.{eq-eqb, le-ltb}
 use lib.ListN.{length}
 use lib.Ieee.{Float}
-use Rattle.float.specs.Operators.{if◌then◌else◌}
+use Rattle.float.specs.Operators.{when◌then◌else◌}
 use Rattle.rows.specs.Constants.{most_rows}
 use Rattle.rows.specs.declared.Point.{Point}
 use Rattle.rows.specs.Rows.{refusal, rows_of}
@@ -39,7 +39,7 @@ module _ (flat : List Float) (upto : ℕ) (p : Point) (F : Frame) (coll : Collec
     accepted = (refusal_0 3 (length flat)).1 (even, few)
 
     recovers : upto ≤ lent → answer ≡ recovered coll found
-    unfolding recovering if◌then◌else◌
+    unfolding recovering when◌then◌else◌
     recovers inside = rw (eq-eqb _ _ accepted, le-ltb _ _ inside)
 
   -- Refusals 1, 2, 7 and 6, in that order: each is given where its own case holds and none before it does, and the point with the collector where

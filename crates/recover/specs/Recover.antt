@@ -1,7 +1,7 @@
 -- `recover_2d_prefix`, as the solve uses it and as an entry. Assumes nothing.
 use Rattle.std.specs.Prelude.{ℕ, ◌/◌, List, eqb, ltb, length, take, Float, not, true}
 use Rattle.std.specs.Float.{inf}
-use Rattle.float.specs.Operators.{if◌then◌else◌, ◌⊖◌, ◌≈◌}
+use Rattle.float.specs.Operators.{when◌then◌else◌, ◌⊖◌, ◌≈◌}
 use Rattle.readings.specs.Readings.{Counted, pure, ◌>>=◌}
 use Rattle.rows.specs.declared.Row.{Row}
 use Rattle.rows.specs.declared.Point.{Point}
@@ -31,7 +31,7 @@ floor_of F p (At x) = p.y ⊖ F.epsilon
 -- the point as it was, with its active rows, where projection did not move it
 unfoldable pub unmoved : State → Fixed → Found
 unmoved s Nowhere = Failed
-unmoved s (At x) = if x ≈ s.at.x then Done s else Failed
+unmoved s (At x) = when x ≈ s.at.x then Done s else Failed
 
 unfoldable pub rebuilt : State → Fixed → Found → Found
 rebuilt s fixed Failed = unmoved s fixed
@@ -57,6 +57,6 @@ unfoldable pub recovering : List Float → ℕ → Point → Frame → Collector
 recovering flat upto p F coll =
     let number = refusal 3 (length flat) in
     let found = (recover (rows_of flat) F upto (record { at = p; active = held coll })).value in
-    if not (eqb number 0) then RecoveredIs.Refused number
-    else if ltb (length flat / 3) upto then RecoveredIs.Refused 7
+    when not (eqb number 0) then RecoveredIs.Refused number
+    else when ltb (length flat / 3) upto then RecoveredIs.Refused 7
     else recovered coll found

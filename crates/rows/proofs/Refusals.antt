@@ -7,7 +7,7 @@ use Prim.Native.Nat.{ℕ, ◌/◌, ◌%◌, ◌≤◌, ◌<◌}
 use native.Mathlib.Omega.{arith}
 use borrow.Author.Tests.{eqb-true, eqb-false, ltb-true, ltb-false}
 use lib.Dec.{eqb, ltb}
-use Rattle.float.specs.Operators.{if◌then◌else◌}
+use Rattle.float.specs.Operators.{when◌then◌else◌}
 use Rattle.rows.specs.Constants.{most_rows}
 use Rattle.rows.specs.Rows.{refusal}
 
@@ -18,11 +18,11 @@ data Why (width floats : ℕ) : ℕ → Type 0 where
 
 module _ (width floats : ℕ) where
   why : Why width floats (refusal width floats)
-  unfolding refusal if◌then◌else◌
+  unfolding refusal when◌then◌else◌
   why = by_tests (eqb (floats % width) 0) (ltb most_rows (floats / width)) refl refl
     where
       by_tests : (even above : Bool) → eqb (floats % width) 0 ≡ even → ltb most_rows (floats / width) ≡ above
-          → Why width floats (if not even then 1 else if above then 2 else 0)
+          → Why width floats (when not even then 1 else when above then 2 else 0)
       by_tests false above p q = uneven (eqb-false (floats % width) 0 p)
       by_tests true true p q = many (eqb-true (floats % width) 0 p) (ltb-true most_rows (floats / width) q)
       by_tests true false p q = none (eqb-true (floats % width) 0 p) (ltb-false most_rows (floats / width) q)

@@ -5,7 +5,7 @@ use mathlib.Core.Bool.{Bool, true, false, not, ◌&&◌, ◌||◌, true≢false}
 use Prim.Native.Nat.{ℕ}
 use native.Mathlib.Omega.{arith}
 use lib.Ieee.{Float, binary64, round, of_bits, add, mul, div, lt, eq}
-use Rattle.float.specs.Operators.{if◌then◌else◌, ◌⊕◌, ◌⊗◌, ◌⊘◌, ◌≼◌, ◌≻◌, ◌≈◌}
+use Rattle.float.specs.Operators.{when◌then◌else◌, ◌⊕◌, ◌⊗◌, ◌⊘◌, ◌≼◌, ◌≻◌, ◌≈◌}
 use Rattle.float.specs.Float.{zero, one, abs, finite}
 use Rattle.rounding.specs.Root.{root, root_units, whole_root}
 use Rattle.rows.specs.declared.Row.{Row}
@@ -21,7 +21,7 @@ norm r = root (r.a ⊗ r.a ⊕ r.b ⊗ r.b)
 
 -- a norm that is zero or not finite makes the whole row zeros
 pub no_norm_no_row : (r : Row) → norm r ≻ zero && finite (norm r) ≡ false → normalized_row r ≡ zeros
-unfolding normalized_row normalized_by if◌then◌else◌
+unfolding normalized_row normalized_by when◌then◌else◌
 no_norm_no_row r h = rw h
 
 abbrev num : ℕ → Float
@@ -29,7 +29,7 @@ num n = round binary64 false n 1
 
 -- normalising multiplies by the reciprocal of the norm: of (3, 4, 10) it makes 3 * 0.2, and that is not 3 / 5
 pub reciprocal_shows : (normalized_row (record { a = num 3; b = num 4; c = num 10 })).a ≈ num 3 ⊘ num 5 ≡ false
-unfolding normalized_row normalized_by if◌then◌else◌ zero one finite root root_units whole_root round of_bits add mul div lt eq
+unfolding normalized_row normalized_by when◌then◌else◌ zero one finite root root_units whole_root round of_bits add mul div lt eq
 reciprocal_shows = refl
 
 -- ---- refusal 5
@@ -39,8 +39,8 @@ module _ (r s : Row) where
   abbrev pub Undecided : Type 0
   Undecided = (finite (determinant r s) ≡ false) ⊎ (abs (determinant r s) ≼ ccw_errbound_a ⊗ (abs (r.a ⊗ s.b) ⊕ abs (r.b ⊗ s.a)) ≡ true)
 
-  decided : (is_finite near : Bool) (p : Point) → (if not is_finite || near then Refused 5 else At p) ≡ Refused 5 → (is_finite ≡ false) ⊎ (near ≡ true)
-  unfolding if◌then◌else◌
+  decided : (is_finite near : Bool) (p : Point) → (when not is_finite || near then Refused 5 else At p) ≡ Refused 5 → (is_finite ≡ false) ⊎ (near ≡ true)
+  unfolding when◌then◌else◌
   decided false near p e = inl refl
   decided true true p e = inr refl
   decided true false p e = absurd (let z : ◌≡◌ {A = ℕ} 0 1 = cc in omega arith)
@@ -51,5 +51,5 @@ module _ (r s : Row) where
   decides true near (inr h) = h
 
   pub refuses_5 : crossing r s ≡ Refused 5 ↔ Undecided
-  unfolding crossing singular if◌then◌else◌
+  unfolding crossing singular when◌then◌else◌
   refuses_5 = (λ e. decided _ _ _ e, λ h. rw (decides _ _ h))

@@ -10,7 +10,7 @@ use lib.Dec.{T, eqb, eqb-suc-zero}
 use lib.IntN.{ℤ}
 use lib.Ieee.{Float, nan, inf, fin, up, down, lt, eq, ne, is_nan, of_bits}
 use lib.Ieee.Fits.{up_pos, down_pos}
-use Rattle.float.specs.Operators.{if◌then◌else◌}
+use Rattle.float.specs.Operators.{when◌then◌else◌}
 use Rattle.float.specs.Float as float
 use Rattle.float.proofs.Nans.{nan_test}
 use Rattle.rounding.specs.Root.{root, root_units}
@@ -31,7 +31,7 @@ root_other s m e = rw (eqb-suc-zero m)
 
 -- a norm that is a zero of either sign leaves no row
 zero_norm : (s : Bool) (e : ℤ) (r : Row) → normalized_by (fin s 0 e) r ≡ zeros
-unfolding normalized_by if◌then◌else◌ float.zero of_bits lt
+unfolding normalized_by when◌then◌else◌ float.zero of_bits lt
 zero_norm true e r = refl
 zero_norm false e r = rw (le-ltb (0 * 1 * down e) (0 * up e * 1) (simp zero-mul (omega arith)))
 

@@ -1,6 +1,6 @@
 -- Rows that lie flat, refusals 1 and 2, normalising, and the 2 by 2 system. Assumes nothing.
 use Rattle.std.specs.Prelude.{ℕ, ◌/◌, ◌%◌, Bool, not, ◌&&◌, ◌||◌, List, [], ◌∷◌, map, eqb, ltb, get_or, length, Float}
-use Rattle.float.specs.Operators.{if◌then◌else◌, ◌⊕◌, ◌⊖◌, ◌⊗◌, ◌⊘◌, ◌≺◌, ◌≼◌, ◌≻◌}
+use Rattle.float.specs.Operators.{when◌then◌else◌, ◌⊕◌, ◌⊖◌, ◌⊗◌, ◌⊘◌, ◌≺◌, ◌≼◌, ◌≻◌}
 use Rattle.float.specs.Float.{zero, one, abs, finite}
 use Rattle.rounding.specs.Root.{root}
 use Rattle.rows.specs.Constants.{eps_zero, ccw_errbound_a, most_rows}
@@ -32,7 +32,7 @@ row_at rows i = get_or rows i zeros
 -- The number of the refusal of so many floats as rows, or pairs, of so many each: 1 where they do not come out even, 2 where they are
 -- too many, and 0 where they are taken.
 unfoldable pub refusal : ℕ → ℕ → ℕ
-refusal width floats = if not (eqb (floats % width) 0) then 1 else if ltb most_rows (floats / width) then 2 else 0
+refusal width floats = when not (eqb (floats % width) 0) then 1 else when ltb most_rows (floats / width) then 2 else 0
 
 -- ---- a row and a point
 
@@ -53,7 +53,7 @@ no_boundary r = abs r.a ≺ eps_zero && abs r.b ≺ eps_zero
 unfoldable pub normalized_by : Float → Row → Row
 normalized_by norm r =
     let inverse = one ⊘ norm in
-    if norm ≻ zero && finite norm then record { a = r.a ⊗ inverse; b = r.b ⊗ inverse; c = r.c ⊗ inverse } else zeros
+    when norm ≻ zero && finite norm then record { a = r.a ⊗ inverse; b = r.b ⊗ inverse; c = r.c ⊗ inverse } else zeros
 
 unfoldable pub normalized_row : Row → Row
 normalized_row r = normalized_by (root (r.a ⊗ r.a ⊕ r.b ⊗ r.b)) r
@@ -63,10 +63,10 @@ normalized rows = map normalized_row rows
 
 -- what `normalize_lp2d` returns, and what it leaves in the lent floats
 unfoldable pub normalizing : List Float → Normalized
-normalizing flat = let number = refusal 3 (length flat) in if eqb number 0 then NormalizedIs.Done else NormalizedIs.Refused number
+normalizing flat = let number = refusal 3 (length flat) in when eqb number 0 then NormalizedIs.Done else NormalizedIs.Refused number
 
 unfoldable pub normalized_flat : List Float → List Float
-normalized_flat flat = if eqb (refusal 3 (length flat)) 0 then flat_of (normalized (rows_of flat)) else flat
+normalized_flat flat = when eqb (refusal 3 (length flat)) 0 then flat_of (normalized (rows_of flat)) else flat
 
 -- ---- the 2 by 2 system
 
@@ -83,4 +83,4 @@ crossing r s =
     let inverse = one ⊘ determinant r s in
     let x = (r.c ⊗ s.b ⊖ r.b ⊗ s.c) ⊗ inverse in
     let y = (r.a ⊗ s.c ⊖ r.c ⊗ s.a) ⊗ inverse in
-    if singular r s then crossing_is.Refused 5 else crossing_is.At (record { x = x; y = y })
+    when singular r s then crossing_is.Refused 5 else crossing_is.At (record { x = x; y = y })

@@ -6,7 +6,7 @@ use Prim.Native.Nat.{ℕ, ◌+◌, ◌-◌, ◌*◌, ◌≤◌, ◌<◌}
 use native.Mathlib.Omega.{arith}
 use lib.ListN.{length, take, drop}
 use lib.Ieee.{Float}
-use Rattle.float.specs.Operators.{if◌then◌else◌}
+use Rattle.float.specs.Operators.{when◌then◌else◌}
 use Rattle.readings.specs.Readings.{Paid, within}
 use Rattle.readings.proofs.Laws.{within-pure, reading_stops, reading_fits}
 use Rattle.rows.specs.declared.Row.{Row}
@@ -33,9 +33,9 @@ module _ {test : Row → Bool} {flat : List Float} {upto i rest : ℕ} {whole : 
     stops e = ap scanned (sym (reading_stops rest 1 _ (omega arith)) ∙ opened)
 
     pub goes_on : 0 < rest → test (row_at (rows_of flat) i) ≡ true → Turn test flat upto (i + 1) (rest - 1) whole
-    unfolding every if◌then◌else◌
+    unfolding every when◌then◌else◌
     goes_on h e = record { gives = sym (reading_fits rest 1 _ (omega arith)) ∙ (rw e at opened) }
 
     pub fails : 0 < rest → test (row_at (rows_of flat) i) ≡ false → Fail (rest - 1) ≡ scanned whole
-    unfolding every if◌then◌else◌ scanned
+    unfolding every when◌then◌else◌ scanned
     fails h e = ap scanned (sym (reading_fits rest 1 _ (omega arith) ∙ within-pure _ _) ∙ (rw e at opened))

@@ -1,6 +1,6 @@
 -- Scans of residuals. Assumes nothing.
 use Rattle.std.specs.Prelude.{Bool, true, false, not, List, [], ◌∷◌, Float}
-use Rattle.float.specs.Operators.{if◌then◌else◌, ◌≼◌, ◌≻◌}
+use Rattle.float.specs.Operators.{when◌then◌else◌, ◌≼◌, ◌≻◌}
 use Rattle.readings.specs.Readings.{Counted, pure, read, ◌>>◌, Paid, paid, stopped}
 use Rattle.rows.specs.declared.Row.{Row}
 use Rattle.rows.specs.declared.Point.{Point}
@@ -11,7 +11,7 @@ use Rattle.scan.specs.declared.Scan.TheVariants.{Pass, Fail, Spent}
 -- whether every row passes a test; each takes a reading, the first that fails included, which ends the scan
 unfoldable pub every : (Row → Bool) → List Row → Counted Bool
 every test [] = pure true
-every test (r ∷ rs) = let rest = every test rs in read 1 >> (if test r then rest else pure false)
+every test (r ∷ rs) = let rest = every test rs in read 1 >> (when test r then rest else pure false)
 
 -- projection's test and rebuilding's: a NaN residual fails the first and passes the second
 unfoldable pub meets : Float → Point → Row → Bool

@@ -9,7 +9,7 @@ use native.Mathlib.Nat.{lt_of_not-le}
 use native.Mathlib.Omega.{arith}
 use borrow.Author.Tests.{lt-ltb, le-ltb, eq-eqb, ne_eqb}
 use lib.Ieee.{Float}
-use Rattle.float.specs.Operators.{if◌then◌else◌}
+use Rattle.float.specs.Operators.{when◌then◌else◌}
 use Rattle.rows.specs.declared.Row.{Row}
 use Rattle.rows.specs.Rows.{rows_of, flat_of}
 use Rattle.active.specs.declared.Active.{Active}
@@ -29,11 +29,11 @@ module _ (T : Task) (rows : List Row) where
   finished_answers = let found = (last_of (all_solves T rows)).run.value in (answer found, active_rows found, refl)
 
   pub finishes : (A : ℕ) → count (all_solves T rows) ≤ A → allowed T A rows ≡ finished T rows
-  unfolding allowed if◌then◌else◌
+  unfolding allowed when◌then◌else◌
   finishes A within = rw (le-ltb A (count (all_solves T rows)) within)
 
   pub stops : (A : ℕ) → A < count (all_solves T rows) → allowed T A rows ≡ record { outcome = Stopped A; rows = rows_within A rows (all_solves T rows) }
-  unfolding allowed if◌then◌else◌
+  unfolding allowed when◌then◌else◌
   stops A above = rw (lt-ltb A (count (all_solves T rows)) above)
 
   number_above : (A : ℕ) → A < count (all_solves T rows) → number (allowed T A rows).outcome ≡ 3
@@ -52,11 +52,11 @@ module _ (T : Task) (rows : List Row) where
 
 module _ (T : Task) (solving : List Row → Ended (List Row)) (flat : List Float) where
   pub refuses : refusal_of T flat ≢ 0 → taken T solving flat ≡ record { outcome = Refused (refusal_of T flat); rows = flat }
-  unfolding taken if◌then◌else◌
+  unfolding taken when◌then◌else◌
   refuses refused = rw (ne_eqb (refusal_of T flat) 0 refused)
 
   pub takes : refusal_of T flat ≡ 0 → taken T solving flat ≡ record { outcome = (solving (rows_of flat)).outcome; rows = flat_of (solving (rows_of flat)).rows }
-  unfolding taken if◌then◌else◌
+  unfolding taken when◌then◌else◌
   takes fits = rw (eq-eqb (refusal_of T flat) 0 fits)
 
   taken_alike : (other : List Row → Ended (List Row)) → solving (rows_of flat) ≡ other (rows_of flat) → taken T solving flat ≡ taken T other flat

@@ -6,7 +6,7 @@ use native.Mathlib.Nat.{one-mul, pow-zero, pow-suc, pow-le-pow_left}
 use native.Mathlib.Omega.{arith}
 use lib.ListN.{length, drop, length-drop}
 use lib.Ieee.{Float}
-use Rattle.float.specs.Operators.{if◌then◌else◌, ◌⊗◌}
+use Rattle.float.specs.Operators.{when◌then◌else◌, ◌⊗◌}
 use Rattle.readings.specs.Readings.{pure, read, ◌>>◌}
 use Rattle.readings.proofs.Gives.{either}
 use Rattle.readings.proofs.Bounds.{◌at_most◌, wider, pure_takes, read_takes}
@@ -91,7 +91,7 @@ module _ (T : Task) where
   count_fits rows h = omega (arith, count_bound rows, pow-le-pow_left h 3, pow-le-pow_left h 2)
 
   pub count_few : (rows : List Row) → length rows ≤ 1 → count (all_solves T rows) ≡ length rows
-  unfolding all_solves solves once count pure read ◌>>◌ if◌then◌else◌
+  unfolding all_solves solves once count pure read ◌>>◌ when◌then◌else◌
   count_few [] h = refl
   count_few (r ∷ []) h = refl
   count_few (r ∷ s ∷ rows) h = omega arith

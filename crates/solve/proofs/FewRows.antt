@@ -5,7 +5,7 @@ use Prim.Native.Nat.{ℕ, zero, suc, ◌*◌, ◌≤◌, ◌<◌}
 use native.Mathlib.Omega.{arith}
 use lib.ListN.{length}
 use lib.Ieee.{Float}
-use Rattle.float.specs.Operators.{if◌then◌else◌}
+use Rattle.float.specs.Operators.{when◌then◌else◌}
 use Rattle.readings.specs.Readings.{pure, read, ◌>>◌}
 use Rattle.rows.specs.declared.Row.{Row}
 use Rattle.rows.specs.Rows.{rows_of, flat_of, row_at}
@@ -20,19 +20,19 @@ use Rattle.solve.proofs.Allowance.{finishes, stops}
 
 module _ (T : Task) (A : ℕ) where
   pub none-answered : (rows : List Row) → length rows ≡ 0 → allowed T A rows ≡ record { outcome = Answered (answer Failed) (active_rows Failed) 0; rows = rows }
-  unfolding finished answered all_solves solves last_of once count pure if◌then◌else◌
+  unfolding finished answered all_solves solves last_of once count pure when◌then◌else◌
   none-answered [] none = finishes T [] A (omega arith)
   none-answered (r ∷ rows) none = absurd (omega arith)
 
   pub one-stopped : (rows : List Row) → length rows ≡ 1 → A ≡ 0 → allowed T A rows ≡ record { outcome = Stopped 0; rows = rows }
-  unfolding rows_within all_solves solves once count pure read ◌>>◌ if◌then◌else◌
+  unfolding rows_within all_solves solves once count pure read ◌>>◌ when◌then◌else◌
   one-stopped [] one spent = absurd (omega arith)
   one-stopped (r ∷ []) one spent = stops T (r ∷ []) A (omega arith) ∙ rw spent
   one-stopped (r ∷ s ∷ rows) one spent = absurd (omega arith)
 
   pub one-answered : (rows : List Row) → length rows ≡ 1 → 0 < A
       → let found = lone (row_at rows 0) in allowed T A rows ≡ record { outcome = Answered (answer found) (active_rows found) 1; rows = rows }
-  unfolding finished answered all_solves solves last_of once count row_at pure read ◌>>◌ if◌then◌else◌
+  unfolding finished answered all_solves solves last_of once count row_at pure read ◌>>◌ when◌then◌else◌
   one-answered [] one some = absurd (omega arith)
   one-answered (r ∷ []) one some = finishes T (r ∷ []) A (omega arith)
   one-answered (r ∷ s ∷ rows) one some = absurd (omega arith)

@@ -7,7 +7,7 @@ use mathlib.Core.List.{List}
 use Prim.Native.Nat.{ℕ, zero, suc, ◌≤◌, ◌-◌}
 use native.Mathlib.Omega.{arith}
 use lib.Ieee.{Float}
-use Rattle.float.specs.Operators.{if◌then◌else◌, ◌⊗◌}
+use Rattle.float.specs.Operators.{when◌then◌else◌, ◌⊗◌}
 use Rattle.readings.proofs.Gives.{either}
 use Rattle.rows.specs.Constants.{lp_box_growth}
 use Rattle.rows.specs.declared.Row.{Row}
@@ -37,14 +37,14 @@ module _ (T : Task) (rows : List Row) (bound : Float) where
 
   -- it is the last where the box may not grow, and where it does not sit on it
   pub ends : (k : ℕ) → (k ≡ 0) ⊎ (first.saturated ≡ false) → solves k T rows bound ≡ last first
-  unfolding solves if◌then◌else◌
+  unfolding solves when◌then◌else◌
   ends zero h = refl
   ends (suc k) (inl none) = absurd (omega arith)
   ends (suc k) (inr off) = rw off
 
   -- and else the box grows
   pub grows : (k : ℕ) → first.saturated ≡ true → solves (suc k) T rows bound ≡ first before solves k T first.rows.value (bound ⊗ lp_box_growth)
-  unfolding solves if◌then◌else◌
+  unfolding solves when◌then◌else◌
   grows k on = rw on
 
   -- so by whether it sits on its box

@@ -10,7 +10,7 @@ use lib.Dec.{ltb}
 use borrow.Author.Tests.{lt-ltb, le-ltb, ltb-true, ltb-false}
 use lib.ListN.{length}
 use lib.Ieee.{Float}
-use Rattle.float.specs.Operators.{if◌then◌else◌, ◌⊗◌}
+use Rattle.float.specs.Operators.{when◌then◌else◌, ◌⊗◌}
 use Rattle.readings.specs.Readings.{within}
 use Rattle.rows.specs.Constants.{lp_bound, lp_box_growth}
 use Rattle.rows.specs.declared.Row.{Row}
@@ -37,15 +37,15 @@ use Rattle.solve.proofs.Answers.{Ran, Told, told}
 module _ (A : ℕ) where
   unfoldable pub ending : ℕ → List Row → Solves → Ended (List Row)
   ending left rows os =
-      if ltb left (count os) then record { outcome = Stopped A; rows = rows_within left rows os } else answered (A - left + count os) (last_of os)
+      when ltb left (count os) then record { outcome = Stopped A; rows = rows_within left rows os } else answered (A - left + count os) (last_of os)
 
   module _ (left : ℕ) (rows : List Row) (os : Solves) where
     ends-stopped : left < count os → ending left rows os ≡ record { outcome = Stopped A; rows = rows_within left rows os }
-    unfolding ending if◌then◌else◌
+    unfolding ending when◌then◌else◌
     ends-stopped above = rw (lt-ltb left (count os) above)
 
     ends-answered : count os ≤ left → ending left rows os ≡ answered (A - left + count os) (last_of os)
-    unfolding ending if◌then◌else◌
+    unfolding ending when◌then◌else◌
     ends-answered within = rw (le-ltb left (count os) within)
 
   -- the first of them came to its end

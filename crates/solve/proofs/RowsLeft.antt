@@ -10,7 +10,7 @@ use borrow.Author.Tests.{lt-ltb, le-ltb, ltb-true, ltb-false}
 use lib.Dec.{ltb}
 use lib.ListN.{length}
 use lib.Ieee.{Float}
-use Rattle.float.specs.Operators.{if◌then◌else◌}
+use Rattle.float.specs.Operators.{when◌then◌else◌}
 use Rattle.readings.specs.Readings.{pure}
 use Rattle.rows.specs.declared.Row.{Row}
 use Rattle.rows.specs.Rows.{rows_of}
@@ -28,19 +28,19 @@ use Rattle.solve.proofs.Growing.{first_of, rounds, allowed_keeps}
 module _ (left : ℕ) (rows : List Row) where
   -- a normalisation for which too few are left touches no row
   pub untouched : (os : Solves) → left < (first_of os).rows.readings → rows_within left rows os ≡ rows
-  unfolding rows_within if◌then◌else◌
+  unfolding rows_within when◌then◌else◌
   untouched (last o) short = rw (lt-ltb left o.rows.readings short)
   untouched (o before os) short = rw (lt-ltb left o.rows.readings short)
 
   -- one that fits leaves its rows where too few are left for the passes
   pub normalised_last : (os : Solves) → (first_of os).rows.readings ≤ left → left < taken_by (first_of os) → rows_within left rows os ≡ (first_of os).rows.value
-  unfolding rows_within if◌then◌else◌
+  unfolding rows_within when◌then◌else◌
   normalised_last (last o) fits short = rw (le-ltb left o.rows.readings fits)
   normalised_last (o before os) fits short = rw (le-ltb left o.rows.readings fits, lt-ltb left (taken_by o) short)
 
   -- and else hands them to the next
   pub normalised_on : (o : Once) (os : Solves) → taken_by o ≤ left → rows_within left rows (o before os) ≡ rows_within (left - taken_by o) o.rows.value os
-  unfolding rows_within if◌then◌else◌
+  unfolding rows_within when◌then◌else◌
   normalised_on o os fits = rw (le-ltb left o.rows.readings (omega arith), le-ltb left (taken_by o) fits)
 
 -- the rows after the first j normalisations, and all the readings up to the last of these
@@ -108,7 +108,7 @@ abbrev pub LeftAt : ℕ → List Row → Solves → Type 0
 LeftAt left rows os = (j : ℕ) × (rows_within left rows os ≡ normalised_by j rows os) × LastToFit left os j
 
 pub last_normalised : (left : ℕ) (rows : List Row) (os : Solves) → LeftAt left rows os
-unfolding rows_within normalised_by if◌then◌else◌
+unfolding rows_within normalised_by when◌then◌else◌
 last_normalised left rows (last o) = by_test (ltb left o.rows.readings) refl
   where
     by_test : (b : Bool) → ltb left o.rows.readings ≡ b → LeftAt left rows (last o)

@@ -2,7 +2,7 @@
 use Rattle.std.specs.Prelude.{ℕ, zero, suc, ◌+◌, ◌-◌, List, ltb, eqb, length, Float}
 use Rattle.std.specs.Float.{nan}
 use Rattle.std.specs.Float.Ieee.{is_nan}
-use Rattle.float.specs.Operators.{if◌then◌else◌, ◌⊗◌}
+use Rattle.float.specs.Operators.{when◌then◌else◌, ◌⊗◌}
 use Rattle.rows.specs.Constants.{lp_bound, lp_box_growth, lp_box_growth_steps}
 use Rattle.rows.specs.declared.Row.{Row}
 use Rattle.rows.specs.declared.Point.{Point}
@@ -37,7 +37,7 @@ solves zero T rows bound = last (once T rows bound)
 solves (suc k) T rows bound =
     let first = once T rows bound in
     let more = solves k T first.rows.value (bound ⊗ lp_box_growth) in
-    if first.saturated then first before more else last first
+    when first.saturated then first before more else last first
 
 unfoldable pub all_solves : Task → List Row → Solves
 all_solves T rows = solves lp_box_growth_steps T rows lp_bound
@@ -56,10 +56,10 @@ count (o before os) = taken_by o + count os
 
 -- the rows after the last normalisation whose readings all fitted in those left: too few for a solve's rows leave them, and too few for its passes end it
 unfoldable pub rows_within : ℕ → List Row → Solves → List Row
-rows_within left rows (last o) = if ltb left o.rows.readings then rows else o.rows.value
+rows_within left rows (last o) = when ltb left o.rows.readings then rows else o.rows.value
 rows_within left rows (o before os) =
     let rest = rows_within (left - taken_by o) o.rows.value os in
-    if ltb left o.rows.readings then rows else if ltb left (taken_by o) then o.rows.value else rest
+    when ltb left o.rows.readings then rows else when ltb left (taken_by o) then o.rows.value else rest
 
 -- ---- what comes back
 
@@ -69,8 +69,8 @@ answer Failed = AnswerIs.Nothing
 answer (Done s) =
     let x = s.at.x in
     let y = s.at.y in
-    if is_nan x then (if is_nan y then AnswerIs.Nothing else AnswerIs.Level y)
-    else if is_nan y then AnswerIs.Across x else AnswerIs.Point x y
+    when is_nan x then (when is_nan y then AnswerIs.Nothing else AnswerIs.Level y)
+    else when is_nan y then AnswerIs.Across x else AnswerIs.Point x y
 
 unfoldable pub active_rows : Found → Active
 active_rows Failed = no_rows
@@ -94,7 +94,7 @@ unfoldable pub allowed : Task → ℕ → List Row → Ended (List Row)
 allowed T allowance rows =
     let all = all_solves T rows in
     let done = finished T rows in
-    if ltb allowance (count all) then record { outcome = Stopped allowance; rows = rows_within allowance rows all } else done
+    when ltb allowance (count all) then record { outcome = Stopped allowance; rows = rows_within allowance rows all } else done
 
 -- ---- the entries, over rows that lie flat: refusals 1 and 2 leave everything as it was
 
@@ -106,7 +106,7 @@ unfoldable pub taken : Task → (List Row → Ended (List Row)) → List Float �
 taken T solving flat =
     let number = refusal_of T flat in
     let e = solving (rows_of flat) in
-    if eqb number 0 then record { outcome = e.outcome; rows = flat_of e.rows } else record { outcome = Refused number; rows = flat }
+    when eqb number 0 then record { outcome = e.outcome; rows = flat_of e.rows } else record { outcome = Refused number; rows = flat }
 
 unfoldable pub solve : Task → ℕ → List Float → Ended (List Float)
 solve T allowance flat = taken T (allowed T allowance) flat

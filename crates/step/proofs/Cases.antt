@@ -6,7 +6,7 @@ use Prim.Native.Nat.{ℕ, ◌-◌, ◌<◌}
 use native.Mathlib.Omega.{arith}
 use lib.ListN.{take}
 use lib.Ieee.{Float, neg}
-use Rattle.float.specs.Operators.{if◌then◌else◌, ◌⊗◌, ◌⊘◌, ◌≼◌, ◌≻◌}
+use Rattle.float.specs.Operators.{when◌then◌else◌, ◌⊗◌, ◌⊘◌, ◌≼◌, ◌≻◌}
 use Rattle.float.specs.Float.{one, abs}
 use Rattle.readings.specs.Readings.{Paid, paid, stopped, within}
 use Rattle.readings.proofs.Laws.{within-pure, reading_stops, reading_fits, goes_on, goes_no_further}
@@ -53,15 +53,15 @@ module _ (R : List Row) (F : Frame) (upto i : ℕ) (s : State) (left : ℕ) wher
   step-none e = reading_stops left 1 _ (omega arith)
 
   module _ (some : 0 < left) where
-    pub step_free : no_boundary (row_at R i) ≡ true → {b : Bool} → neg F.epsilon ≼ (row_at R i).c ≡ b → stepping ≡ paid (if b then Done s else Failed) (left - 1)
-    unfolding step if◌then◌else◌
-    step_free e {b} d = reading_fits left 1 _ (omega arith) ∙ rw (e, d) (within-pure (left - 1) (if b then Done s else Failed))
+    pub step_free : no_boundary (row_at R i) ≡ true → {b : Bool} → neg F.epsilon ≼ (row_at R i).c ≡ b → stepping ≡ paid (when b then Done s else Failed) (left - 1)
+    unfolding step when◌then◌else◌
+    step_free e {b} d = reading_fits left 1 _ (omega arith) ∙ rw (e, d) (within-pure (left - 1) (when b then Done s else Failed))
 
     module _ (e : no_boundary (row_at R i) ≡ false) where
       pub step_steep : abs (row_at R i).a ≻ abs (row_at R i).b ≡ true → stepping ≡ within (left - 1) (steep_step F (take upto R) i (row_at R i) s)
-      unfolding step if◌then◌else◌
+      unfolding step when◌then◌else◌
       step_steep d = reading_fits left 1 _ (omega arith) ∙ rw (e, d)
 
       pub step_flat : abs (row_at R i).a ≻ abs (row_at R i).b ≡ false → stepping ≡ within (left - 1) (flat_step F (take upto R) i (row_at R i) s)
-      unfolding step if◌then◌else◌
+      unfolding step when◌then◌else◌
       step_flat d = reading_fits left 1 _ (omega arith) ∙ rw (e, d)

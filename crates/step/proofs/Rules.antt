@@ -4,7 +4,7 @@ use mathlib.Core.Path.{◌≡◌, refl, ap}
 use mathlib.Core.Bool.{true, false}
 use Prim.Native.Nat.{ℕ}
 use lib.Ieee.{Float, neg, lt}
-use Rattle.float.specs.Operators.{if◌then◌else◌, ◌⊖◌, ◌⊗◌, ◌≺◌, ◌≻◌}
+use Rattle.float.specs.Operators.{when◌then◌else◌, ◌⊖◌, ◌⊗◌, ◌≺◌, ◌≻◌}
 use Rattle.float.specs.Float.{zero, finite}
 use Rattle.float.proofs.Laws.{min_picks, max_picks}
 use Rattle.float.proofs.Order.{below_nan}
@@ -17,7 +17,7 @@ use Rattle.step.specs.Step.{uncrossed, chosen, flat_end}
 
 -- NaN does not cross
 pub void-passes : (ε : Float) (s : Span) → uncrossed ε (void s) ≡ Kept (void s)
-unfolding uncrossed void if◌then◌else◌ lt
+unfolding uncrossed void when◌then◌else◌ lt
 void-passes ε s = refl
 
 module _ (bound p q ε : Float) (i : ℕ) (s : Span) where
@@ -28,13 +28,13 @@ module _ (bound p q ε : Float) (i : ℕ) (s : Span) where
   void_succeeds = ap (flat_end bound p q i) (void-passes ε s)
 
   pub rising_takes_the_box : p ≻ zero ≡ true → (chosen i p bound (void s)).x ≡ bound
-  unfolding chosen void finite if◌then◌else◌
+  unfolding chosen void finite when◌then◌else◌
   rising_takes_the_box up = rw up (max_picks.past_nan_left bound)
 
   pub falling_takes_the_box : p ≻ zero ≡ false → p ≺ zero ≡ true → (chosen i p bound (void s)).x ≡ neg bound
-  unfolding chosen void finite if◌then◌else◌
+  unfolding chosen void finite when◌then◌else◌
   falling_takes_the_box up down = rw (up, down) (min_picks.past_nan_left (neg bound))
 
   pub level_takes_zero : p ≻ zero ≡ false → p ≺ zero ≡ false → chosen i p bound (void s) ≡ record { x = zero; active = set_first i no_rows }
-  unfolding chosen void if◌then◌else◌ lt
+  unfolding chosen void when◌then◌else◌ lt
   level_takes_zero up down = rw (up, down, below_nan zero)

@@ -1,7 +1,7 @@
 -- `incre_step_2d`. Assumes nothing.
 use Rattle.std.specs.Prelude.{ℕ, true, false, List, map, take, Float}
 use Rattle.std.specs.Float.Ieee.{neg, is_nan}
-use Rattle.float.specs.Operators.{if◌then◌else◌, ◌⊕◌, ◌⊖◌, ◌⊗◌, ◌⊘◌, ◌≺◌, ◌≼◌, ◌≻◌}
+use Rattle.float.specs.Operators.{when◌then◌else◌, ◌⊕◌, ◌⊖◌, ◌⊗◌, ◌⊘◌, ◌≺◌, ◌≼◌, ◌≻◌}
 use Rattle.float.specs.Float.{zero, one, abs, finite, min, max}
 use Rattle.readings.specs.Readings.{Counted, pure, read, ◌>>=◌, ◌>>◌, Paid, paid, stopped}
 use Rattle.rows.specs.Constants.{eps_rounding, half}
@@ -36,7 +36,7 @@ m >>? f = m >>= onward f
 unfoldable pub steep_end : Float → Float → ℕ → State → Span → Found
 steep_end p q i s t =
     let y = min t.high s.at.y in
-    if is_nan t.high then Failed else Done (record { at = record { x = p ⊗ y ⊖ q; y = y }; active = set_second i t.active })
+    when is_nan t.high then Failed else Done (record { at = record { x = p ⊗ y ⊖ q; y = y }; active = set_second i t.active })
 
 unfoldable pub steep_step : Frame → List Row → ℕ → Row → State → Counted Found
 steep_step F others i r s =
@@ -51,18 +51,18 @@ steep_step F others i r s =
 unfoldable pub uncrossed : Float → Span → Narrowed
 uncrossed ε s =
     let middle = half ⊗ (s.high ⊕ s.low) in
-    if s.high ≺ s.low then
-    (if s.low ⊖ s.high ≻ max ε (eps_rounding ⊗ (abs s.low ⊕ abs s.high)) then Empty
+    when s.high ≺ s.low then
+    (when s.low ⊖ s.high ≻ max ε (eps_rounding ⊗ (abs s.low ⊕ abs s.high)) then Empty
     else Kept (record { high = middle; low = middle; active = s.active }))
     else Kept s
 
 -- the x with the highest y, the box standing in for a missing end; on a level line the x nearest 0
 unfoldable pub chosen : ℕ → Float → Float → Span → Chosen
 chosen i p bound s =
-    if p ≻ zero then record { x = if finite s.high then s.high else max s.low bound; active = set_second i s.active }
-    else if p ≺ zero then record { x = if finite s.low then s.low else min s.high (neg bound); active = set_first i s.active }
-    else if s.low ≻ zero then record { x = s.low; active = set_first i s.active }
-    else if s.high ≺ zero then record { x = s.high; active = set_second i s.active }
+    when p ≻ zero then record { x = when finite s.high then s.high else max s.low bound; active = set_second i s.active }
+    else when p ≺ zero then record { x = when finite s.low then s.low else min s.high (neg bound); active = set_first i s.active }
+    else when s.low ≻ zero then record { x = s.low; active = set_first i s.active }
+    else when s.high ≺ zero then record { x = s.high; active = set_second i s.active }
     else record { x = zero; active = set_first i no_rows }
 
 unfoldable pub flat_end : Float → Float → Float → ℕ → Narrowed → Found
@@ -84,8 +84,8 @@ unfoldable pub step : List Row → Frame → ℕ → ℕ → State → Counted F
 step R F upto i s =
     let r = row_at R i in
     let others = take upto R in
-    read 1 >> (if no_boundary r then pure (if neg F.epsilon ≼ r.c then Done s else Failed)
-    else if abs r.a ≻ abs r.b then steep_step F others i r s else flat_step F others i r s)
+    read 1 >> (when no_boundary r then pure (when neg F.epsilon ≼ r.c then Done s else Failed)
+    else when abs r.a ≻ abs r.b then steep_step F others i r s else flat_step F others i r s)
 
 -- what the code gives back
 unfoldable pub stepped : Paid Found → Stepped

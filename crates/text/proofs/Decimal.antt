@@ -9,12 +9,12 @@ use lib.Dec.{ltb}
 use lib.ListN.{length, drop, set, length-append, length-set, drop_of_length-le}
 use lib.Seq.{drop-cons, get_or-set_same, drop-set-lt}
 use borrow.Author.Tests.{lt-ltb, le-ltb}
-use Rattle.float.specs.Operators.{if◌then◌else◌}
+use Rattle.float.specs.Operators.{when◌then◌else◌}
 use Rattle.text.specs.Sizes.{longest_decimal}
 use Rattle.text.specs.Text.{glyph, decimal_within, decimal}
 
-longer : (b : Bool) (only last : ℕ) (rest : List ℕ) (k : ℕ) → length rest ≤ k → length (if b then only ∷ [] else rest ++ last ∷ []) ≤ suc k
-unfolding if◌then◌else◌
+longer : (b : Bool) (only last : ℕ) (rest : List ℕ) (k : ℕ) → length rest ≤ k → length (when b then only ∷ [] else rest ++ last ∷ []) ≤ suc k
+unfolding when◌then◌else◌
 longer true only last rest k h = omega arith
 longer false only last rest k h = simp length-append (omega arith)
 
@@ -46,11 +46,11 @@ digit_put digits at d inside =
 
 module _ (n rest at : ℕ) (digits : List ℕ) (inside : at < length digits) (left : decimal_within (at + 1) rest ++ drop (at + 1) digits ≡ decimal n) where
   pub one_more_spelled : 9 < rest → decimal_within at (rest / 10) ++ drop at (set digits at (48 + rest % 10)) ≡ decimal n
-  unfolding decimal_within glyph if◌then◌else◌
+  unfolding decimal_within glyph when◌then◌else◌
   one_more_spelled several =
       let last = digit_put digits at (48 + rest % 10) inside in
       rw last (rw (add-one at, le-ltb rest 10 (omega arith), lt-ltb (rest % 10) 10 (omega arith), append_assoc) at left)
 
   pub all_spelled : rest ≤ 9 → drop at (set digits at (48 + rest)) ≡ decimal n
-  unfolding decimal_within glyph if◌then◌else◌
+  unfolding decimal_within glyph when◌then◌else◌
   all_spelled one = digit_put digits at (48 + rest) inside ∙ rw (add-one at, lt-ltb rest 10 (omega arith)) at left

@@ -5,7 +5,7 @@ use Prim.Native.Nat.{ℕ}
 use Prim.Native.Char.{code}
 use Prim.Native.String.{String, [], ◌∷◌}
 use lib.Ieee.{Float, nan, binary64, of_bits, to_bits}
-use Rattle.float.specs.Operators.{if◌then◌else◌}
+use Rattle.float.specs.Operators.{when◌then◌else◌}
 use Rattle.active.specs.declared.Slot.{Slot}
 use Rattle.active.specs.declared.Slot.TheVariants.{NoRow, Holds}
 use Rattle.solve.specs.declared.Answer.{Answer}
@@ -54,6 +54,6 @@ Sample =
 
 pub sample : Sample
 unfolding
-    of_bits to_bits if◌then◌else◌ glyph longest_decimal decimal_within decimal hex_from hex point_word level_word across_word nothing_word refused_word
+    of_bits to_bits when◌then◌else◌ glyph longest_decimal decimal_within decimal hex_from hex point_word level_word across_word nothing_word refused_word
     number_word float_word slot_word answer_words refusal_words outcome_words outcome_line end_line
 sample = (refl, refl, refl, refl, refl, refl, refl, refl, refl, refl)

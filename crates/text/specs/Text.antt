@@ -1,18 +1,18 @@
 -- Numbers as text, in ASCII, and text put into lent bytes. Assumes nothing.
 use Rattle.std.specs.Prelude.{ℕ, zero, suc, ◌+◌, ◌*◌, ◌/◌, ◌%◌, ◌^◌, List, [], ◌∷◌, ◌++◌, ltb, length, take, drop}
-use Rattle.float.specs.Operators.{if◌then◌else◌}
+use Rattle.float.specs.Operators.{when◌then◌else◌}
 use Rattle.text.specs.Sizes.{longest_decimal}
 
 -- a digit below 16: `0` to `9`, then `A` to `F`
 unfoldable pub glyph : ℕ → ℕ
-glyph d = if ltb d 10 then 48 + d else 55 + d
+glyph d = when ltb d 10 then 48 + d else 55 + d
 
 -- the decimal digits of a number of k digits at most
 unfoldable pub decimal_within : ℕ → ℕ → List ℕ
 decimal_within zero n = []
 decimal_within (suc k) n =
     let rest = decimal_within k (n / 10) in
-    if ltb n 10 then glyph n ∷ [] else rest ++ glyph (n % 10) ∷ []
+    when ltb n 10 then glyph n ∷ [] else rest ++ glyph (n % 10) ∷ []
 
 unfoldable pub decimal : ℕ → List ℕ
 decimal n = decimal_within longest_decimal n

@@ -1,7 +1,7 @@
 -- `float::max` meets its contract: of two that are equal by their bits, and of others by `<`, after a test for a NaN by `x != x`. Assumes nothing.
 use mathlib.Core.Path.{sym, subst, ◌∙◌}
 use lib.Dec.{T}
-use Rattle.float.specs.Operators.{if◌then◌else◌}
+use Rattle.float.specs.Operators.{when◌then◌else◌}
 use Rattle.float.proofs.Nans.{nan_test}
 use Rattle.float.proofs.Joined.{greatest_of_equal, greatest_of_unequal}
 use Rattle.float.proofs.max.Goals.{else-x, then-x}
@@ -16,14 +16,14 @@ returns-then-x-y c =
     (greatest_of_equal a.x a.y (subst T (sym good.0.1) tt) (subst T (sym good.1.0.1) tt) c.if-x-y.true)
 
 pub returns-then-x-y-2 : goal.returns-then-x-y-2
-unfolding if◌then◌else◌
+unfolding when◌then◌else◌
 returns-then-x-y-2 c =
     let a = c.args in
     rw (← greatest_of_unequal a.x a.y c.if-x-y.false)
     (elim c.if-x.branch [ then-x w ↦ simp (nan_test, w.if-x.true) | else-x w ↦ simp (nan_test, w.if-x.false, ← w.value-is, c.if-x-y-2.true) ])
 
 pub returns-else-x-y-2 : goal.returns-else-x-y-2
-unfolding if◌then◌else◌
+unfolding when◌then◌else◌
 returns-else-x-y-2 c =
     let a = c.args in
     rw (← greatest_of_unequal a.x a.y c.if-x-y.false)

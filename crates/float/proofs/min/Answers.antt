@@ -1,7 +1,7 @@
 -- `float::min` meets its contract: of two that are equal by their bits, and of others by `<`, after a test for a NaN by `x != x`. Assumes nothing.
 use mathlib.Core.Path.{sym, subst, ◌∙◌}
 use lib.Dec.{T}
-use Rattle.float.specs.Operators.{if◌then◌else◌}
+use Rattle.float.specs.Operators.{when◌then◌else◌}
 use Rattle.float.proofs.Nans.{nan_test}
 use Rattle.float.proofs.Joined.{least_of_equal, least_of_unequal}
 use Rattle.float.proofs.min.Goals.{else-x, then-x}
@@ -16,14 +16,14 @@ returns-then-x-y c =
     (least_of_equal a.x a.y (subst T (sym good.0.1) tt) (subst T (sym good.1.0.1) tt) c.if-x-y.true)
 
 pub returns-then-y-x : goal.returns-then-y-x
-unfolding if◌then◌else◌
+unfolding when◌then◌else◌
 returns-then-y-x c =
     let a = c.args in
     rw (← least_of_unequal a.x a.y c.if-x-y.false)
     (elim c.if-x.branch [ then-x w ↦ simp (nan_test, w.if-x.true) | else-x w ↦ simp (nan_test, w.if-x.false, ← w.value-is, c.if-y-x.true) ])
 
 pub returns-else-y-x : goal.returns-else-y-x
-unfolding if◌then◌else◌
+unfolding when◌then◌else◌
 returns-else-y-x c =
     let a = c.args in
     rw (← least_of_unequal a.x a.y c.if-x-y.false)

@@ -2,7 +2,7 @@
 -- Assumes nothing.
 use Rattle.std.proofs.Common.{◌≡◌, ◌≢◌, ℕ, List, ◌<◌, ◌≤◌, ap, sym, ◌∙◌, arith}
 use Rattle.std.proofs.lemmas.Bool.Decides.{nat_tests}
-use Rattle.float.specs.Operators.{if◌then◌else◌}
+use Rattle.float.specs.Operators.{when◌then◌else◌}
 use Rattle.rows.specs.declared.Row.{Row}
 use Rattle.rows.specs.Constants.{most_rows}
 use Rattle.solve.specs.declared.Outcome.TheVariants.{Refused}
@@ -13,15 +13,15 @@ use Rattle.lent.proofs.solve_rows.Goals as goal
 
 -- what a refusal that is given, or not, says of the number of rows
 given : (n k : ℕ) → k ≡ too_many n → k ≢ 0 → most_rows < n
-unfolding too_many if◌then◌else◌
+unfolding too_many when◌then◌else◌
 given n k is_k nonzero = grind (arith, nat_tests)
 
 two : (n k : ℕ) → k ≡ too_many n → k ≢ 0 → k ≡ 2
-unfolding too_many if◌then◌else◌
+unfolding too_many when◌then◌else◌
 two n k is_k nonzero = grind (arith, nat_tests)
 
 taken : (n k : ℕ) → k ≡ too_many n → k ≡ 0 → n ≤ most_rows
-unfolding too_many if◌then◌else◌
+unfolding too_many when◌then◌else◌
 taken n k is_k zero = grind (arith, nat_tests)
 
 pub returns-then-number-ne0-clause-answer : goal.returns-then-number-ne0-clause-answer

@@ -1,11 +1,11 @@
 -- `once::one_round` meets its contract.
-use Rattle.float.specs.Operators.{if◌then◌else◌}
+use Rattle.float.specs.Operators.{when◌then◌else◌}
 use Rattle.step.proofs.Answers.{tells}
 use Rattle.once.specs.Once.{rounded}
 use Rattle.once.proofs.one_round.Goals as goal
 
 pub returns-then-is_saturated : goal.returns-then-is_saturated
-unfolding rounded if◌then◌else◌
+unfolding rounded when◌then◌else◌
 returns-then-is_saturated c =
     let wide = c.widened-wide.ensures in
     let found = tells _ (rw wide at c.both_passes-got.ensures) c.in-Done.is in
@@ -20,7 +20,7 @@ unfolding rounded
 returns-in-Failed c = rw (tells _ (rw c.widened-wide.ensures at c.both_passes-got.ensures) c.in-Failed.is)
 
 pub returns-else-is_saturated : goal.returns-else-is_saturated
-unfolding rounded if◌then◌else◌
+unfolding rounded when◌then◌else◌
 returns-else-is_saturated c =
     let wide = c.widened-wide.ensures in
     let found = tells _ (rw wide at c.both_passes-got.ensures) c.in-Done.is in

@@ -4,7 +4,7 @@ use native.Mathlib.Omega.{arith}
 use borrow.Author.Rules.{rules}
 use borrow.Author.Tests.{eq-eqb, ne_eqb}
 use lib.ListN.{length}
-use Rattle.float.specs.Operators.{if◌then◌else◌}
+use Rattle.float.specs.Operators.{when◌then◌else◌}
 use Rattle.solve.specs.declared.Outcome.TheVariants.{Refused}
 use Rattle.text.specs.Lines.{outcome_line, end_line}
 use Rattle.text.proofs.Written.{then_put}
@@ -16,12 +16,12 @@ pub put_end-requires-2 : goal.put_end-requires-2
 put_end-requires-2 c = omega (arith, line_length (c.args.link.lines + 1) (Refused 8))
 
 pub returns-then-link-eq0 : goal.returns-then-link-eq0
-unfolding last_text if◌then◌else◌
+unfolding last_text when◌then◌else◌
 returns-then-link-eq0 c =
     rw (eq-eqb _ _ c.if-link-eq0.true) record { end = c.put_end.ensures.end; out = c.put_end.ensures.out }
 
 pub returns : goal.returns
-unfolding last_text if◌then◌else◌
+unfolding last_text when◌then◌else◌
 returns c =
     let a = c.args in
     let number = a.link.lines + 1 in

@@ -3,7 +3,7 @@ use mathlib.Core.Path.{sym, ◌∙◌}
 use native.Mathlib.Omega.{arith}
 use borrow.Author.Tests.{lt-ltb, le-ltb, eq-eqb, ne_eqb}
 use lib.ListN.{length-take}
-use Rattle.float.specs.Operators.{if◌then◌else◌}
+use Rattle.float.specs.Operators.{when◌then◌else◌}
 use Rattle.record.specs.Sizes.{header_bytes, field_bytes, rows_at, most_floats}
 use Rattle.record.specs.Record.{body_length, kind, size}
 use Rattle.record.proofs.Refusals.{solved-length}
@@ -13,7 +13,7 @@ use Rattle.reader.proofs.Placed.{word_on-none, rows_on-none}
 use Rattle.reader.proofs.take_rows.Goals as goal
 
 pub returns-then-passed-lt-ROWS_AT : goal.returns-then-passed-lt-ROWS_AT
-unfolding of_rows if◌then◌else◌ rows_at
+unfolding of_rows when◌then◌else◌ rows_at
 returns-then-passed-lt-ROWS_AT c =
     let a = c.args in
     let head = a.head.now in
@@ -25,7 +25,7 @@ returns-then-passed-lt-ROWS_AT c =
     }
 
 pub returns-then-number_of-ne0 : goal.returns-then-number_of-ne0
-unfolding of_rows word_on rows_on keeps_rows if◌then◌else◌ rows_at
+unfolding of_rows word_on rows_on keeps_rows when◌then◌else◌ rows_at
 returns-then-number_of-ne0 c =
     let number = sym c.number_of.ensures in
     let none = ne_eqb _ _ c.if-number_of-ne0.true in
@@ -45,7 +45,7 @@ push_rows-now-requires c =
     record { bytes_bound = omega (arith, solved.0, solved.2); rows_len_bound = omega arith }
 
 pub returns : goal.returns
-unfolding of_rows word_on rows_on keeps_rows if◌then◌else◌ rows_at
+unfolding of_rows word_on rows_on keeps_rows when◌then◌else◌ rows_at
 returns c =
     let none = sym c.number_of.ensures in
     let solved = eq-eqb _ _ c.if-number_of-ne0.false in

@@ -1,6 +1,6 @@
 -- `rebuild::two_support` meets its contract.
 use borrow.Author.Tests.{eq-eqb, ne_eqb}
-use Rattle.float.specs.Operators.{if◌then◌else◌}
+use Rattle.float.specs.Operators.{when◌then◌else◌}
 use Rattle.rebuild.specs.Supports.{two_support}
 use Rattle.rebuild.proofs.Tests.{holds, fails}
 use Rattle.rebuild.proofs.two_support.Goals.{then-not-among-via-then-not-among}
@@ -25,13 +25,13 @@ returns-then-not-among c =
     ]
 
 pub returns-then-i-j : goal.returns-then-i-j
-unfolding two_support if◌then◌else◌
+unfolding two_support when◌then◌else◌
 returns-then-i-j c =
     rw (holds c.among.ensures c.if-not-among.false, holds c.on_boundary.ensures c.if-not-on_boundary.false)
     (rw (holds c.on_boundary-else-not-on_boundary.ensures c.if-not-on_boundary-2.false, eq-eqb _ _ c.if-i-j.true) c.alone.ensures)
 
 pub returns : goal.returns
-unfolding two_support if◌then◌else◌
+unfolding two_support when◌then◌else◌
 returns c =
     rw (holds c.among.ensures c.if-not-among.false, holds c.on_boundary.ensures c.if-not-on_boundary.false)
     (rw (holds c.on_boundary-else-not-on_boundary.ensures c.if-not-on_boundary-2.false, ne_eqb _ _ c.if-i-j.false) c.together.ensures)

@@ -1,10 +1,10 @@
 -- `recover::unmoved` meets its contract.
-use Rattle.float.specs.Operators.{if◌then◌else◌}
+use Rattle.float.specs.Operators.{when◌then◌else◌}
 use Rattle.recover.specs.Recover.{unmoved}
 use Rattle.recover.proofs.unmoved.Goals as goal
 
 pub returns-then-x-s : goal.returns-then-x-s
-unfolding unmoved if◌then◌else◌
+unfolding unmoved when◌then◌else◌
 returns-then-x-s c = simp (c.in-At.is, c.if-x-s.true)
 
 pub returns-in-Nowhere : goal.returns-in-Nowhere
@@ -12,5 +12,5 @@ unfolding unmoved
 returns-in-Nowhere c = simp c.in-Nowhere.is
 
 pub returns-else-x-s : goal.returns-else-x-s
-unfolding unmoved if◌then◌else◌
+unfolding unmoved when◌then◌else◌
 returns-else-x-s c = simp (c.in-At.is, c.if-x-s.false)

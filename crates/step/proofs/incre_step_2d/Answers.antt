@@ -1,7 +1,7 @@
 -- `step::incre_step_2d` meets its contract.
 use mathlib.Core.Path.{sym, ap, ◌∙◌}
 use mathlib.Core.Bool.{true, false}
-use Rattle.float.specs.Operators.{if◌then◌else◌}
+use Rattle.float.specs.Operators.{when◌then◌else◌}
 use Rattle.rows.specs.Rows.{rows_of}
 use Rattle.step.specs.Step.{stepped}
 use Rattle.step.proofs.Cases.{step-none, step_free, step_steep, step_flat}
@@ -15,7 +15,7 @@ returns-then-left-eq0 c =
     sym (ap stepped (step-none (rows_of a.rows.now) a.f a.upto a.row a.s a.left c.if-left-eq0.true))
 
 pub returns-then-r-f : goal.returns-then-r-f
-unfolding stepped if◌then◌else◌
+unfolding stepped when◌then◌else◌
 returns-then-r-f c =
     let a = c.args in
     sym (ap stepped
@@ -24,7 +24,7 @@ returns-then-r-f c =
     {b = true} (rw (← c.row_at-r.ensures) c.if-r-f.true)))
 
 pub returns-then-no_boundary : goal.returns-then-no_boundary
-unfolding stepped if◌then◌else◌
+unfolding stepped when◌then◌else◌
 returns-then-no_boundary c =
     let a = c.args in
     sym (ap stepped
