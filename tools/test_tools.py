@@ -1289,9 +1289,9 @@ class House(unittest.TestCase):
     """The rules of the repository, on a small one in which nothing breaks them."""
 
     LAWS = """-- What adding does.
-use mathlib.Core.Path.{_≡_, refl, ap as by}
-use Rattle·base·specs.specs.Sums.{_⊞_, twice, if_then_else_}
-use Rattle·base·proofs.proofs.Tools as tools
+use mathlib.Core.Path.{◌≡◌, refl, ap as by}
+use Rattle.base.specs.Sums.{◌⊞◌, twice, if◌then◌else◌}
+use Rattle.base.proofs.Tools as tools
 
 pub zero-left : (n : ℕ) → zero ⊞ n ≡ n
 zero-left zero = refl
@@ -1302,17 +1302,17 @@ unfolding twice
 right n = zero-left n
 """
     SUMS = """-- Sums. Assumes nothing.
-use Prim.Native.Nat.{ℕ, _+_}
+use Prim.Native.Nat.{ℕ, ◌+◌}
 
-unfoldable pub _⊞_ : ℕ → ℕ → ℕ
-_⊞_ a b = a + b
+unfoldable pub ◌⊞◌ : ℕ → ℕ → ℕ
+◌⊞◌ a b = a + b
 """
     CODE = """// Adds two numbers.
-ghost use mathlib.Core.Path.{_≡_};
+ghost use mathlib.Core.Path.{◌≡◌};
 use base::Number;
 
 pub fn add(a: u64, b: u64) -> u64
-    ensures { λ r. ⌜ r ≡ a ⌝ }
+    ensures { result ≡ a }
 {
     a + b
 }
@@ -1359,7 +1359,7 @@ pub fn add(a: u64, b: u64) -> u64
         self.assert_found()
         self.put("crates/base/specs/Sums.antt", self.SUMS + "-- " + "ℕ" * 158 + "\n")
         self.put("crates/base/notes.txt", "a" * 200)
-        for data in ("stdin", "stdout", "args", "data/deep/file", "must-fail/README"):
+        for data in ("stdin", "stdout", "args", "status", "data/deep/file", "must-fail/README", "out/made/a.antt"):
             self.put(f"crates/base/{data}", "a" * 200)
         self.assert_found(
             "crates/base/notes.txt:1: 200 characters, and 160 are the most",
@@ -1381,7 +1381,7 @@ pub fn add(a: u64, b: u64) -> u64
         self.assert_found()
 
     def test_a_list_of_modules_needs_no_opening(self):
-        self.put("crates/base/specs/Lib.antt", "pub mod Sums\n-- a remark\npub mod More\n")
+        self.put("crates/base/specs/Lib.antt", "pub mod Sums\n-- a remark\nmod More\npub mod Others\n")
         self.assert_found()
         self.put("crates/base/specs/Lib.antt", "pub mod Sums\n\npub one : ℕ\none = 1\n")
         self.put("crates/base/specs/Other.antt", "pub mod Sums\n")
@@ -1416,8 +1416,8 @@ pub fn add(a: u64, b: u64) -> u64
             ("use M.N", "f = M.a", ["N"]),
             ("use M.N as O", "f = O.a", []),
             ("use M.N as O", "f = N.a", ["O"]),
-            ("use M.T.the-variants.{Left, Right}", "f Left = Right", []),
-            ("use M.T.the-variants as is", "f is.Left = b", []),
+            ("use M.T.TheVariants.{Left, Right}", "f Left = Right", []),
+            ("use M.T.TheVariants as Is", "f Is.Left = b", []),
             ("pub use M.{a}", "f = b", ["a"]),  # passed on, which the rule lets be
         ]:
             with self.subTest(use=use, body=body):
@@ -1425,19 +1425,19 @@ pub fn add(a: u64, b: u64) -> u64
 
     def test_operators_that_are_not_used(self):
         for use, body, wanted in [
-            ("use M.{_≡_, _≤_}", "f : a ≡ b", ["_≤_"]),
-            ("use M.{_+_, _-_}", "f = map (_+ 1) (map (1 -_) xs)", []),
-            ("use M.{_+_, _-_}", "f = fold _+_ xs", ["_-_"]),
-            ("use M.{¬_}", "f : ¬ A", []),
-            ("use M.{if_then_else_}", "f = if a then b else c", []),
-            ("use M.{if_then_else_}", "f = if a then b", ["if_then_else_"]),
-            ("use M.{if_then_else_}", "f : A\nunfolding if_then_else_", []),
-            ("use M.{[], _∷_}", "f = 1 ∷ []", []),
-            ("use M.{[] as none, _∷_ as _then_}", "f = 1 then none", []),
-            ("use M.{[], _∷_}", "f = elim x [ a ↦ b | c ↦ d ]", ["[]", "_∷_"]),
-            ("use M.{∥_∥₁}", "f : ∥ A ∥₁", []),
-            ("use M.{_>>=_, _>>_}", "f = do\n  x ← m\n  n", []),
-            ("use M.{_>>=_, _>>_}", "f = m", ["_>>=_", "_>>_"]),
+            ("use M.{◌≡◌, ◌≤◌}", "f : a ≡ b", ["◌≤◌"]),
+            ("use M.{◌+◌, ◌-◌}", "f = map (◌+ 1) (map (1 -◌) xs)", []),
+            ("use M.{◌+◌, ◌-◌}", "f = fold ◌+◌ xs", ["◌-◌"]),
+            ("use M.{¬◌}", "f : ¬ A", []),
+            ("use M.{if◌then◌else◌}", "f = if a then b else c", []),
+            ("use M.{if◌then◌else◌}", "f = if a then b", ["if◌then◌else◌"]),
+            ("use M.{if◌then◌else◌}", "f : A\nunfolding if◌then◌else◌", []),
+            ("use M.{[], ◌∷◌}", "f = 1 ∷ []", []),
+            ("use M.{[] as none, ◌∷◌ as ◌then◌}", "f = 1 then none", []),
+            ("use M.{[], ◌∷◌}", "f = elim x [ a ↦ b | c ↦ d ]", ["[]", "◌∷◌"]),
+            ("use M.{∥◌∥₁}", "f : ∥ A ∥₁", []),
+            ("use M.{◌>>=◌, ◌>>◌}", "f = do\n  x ← m\n  n", []),
+            ("use M.{◌>>=◌, ◌>>◌}", "f = m", ["◌>>=◌", "◌>>◌"]),
             ("use M.{«in»}", "f = «in»", []),
         ]:
             with self.subTest(use=use, body=body):
@@ -1445,8 +1445,8 @@ pub fn add(a: u64, b: u64) -> u64
 
     def test_ghosts_that_are_not_used(self):
         for use, body, wanted in [
-            ("ghost use M.{_≡_, length};", "ensures { λ r. ⌜ r ≡ 1 ⌝ }", ["length"]),
-            ("ghost use M as ghost;", "ensures { ⌜ ghost.a ⌝ }", []),
+            ("ghost use M.{◌≡◌, length};", "ensures { result ≡ 1 }", ["length"]),
+            ("ghost use M as ghost;", "ensures { ghost.a }", []),
             ("ghost use M.{a};", "// a", ["a"]),
             ("ghost use M.{a};", "let q = b'\"'; a", []),
             ("use m::Thing;", "f()", []),
@@ -1455,8 +1455,8 @@ pub fn add(a: u64, b: u64) -> u64
                 self.assertEqual(self.unused(use, body, "rt"), wanted)
 
     def test_an_unused_name_is_found_where_it_stands(self):
-        self.change("crates/base/proofs/Laws.antt", "{_≡_, refl,", "{_≡_,\n    sym, refl,")
-        self.change("crates/base/src/lib.rt", "{_≡_}", "{_≡_, true}")
+        self.change("crates/base/proofs/Laws.antt", "{◌≡◌, refl,", "{◌≡◌,\n    sym, refl,")
+        self.change("crates/base/src/lib.rt", "{◌≡◌}", "{◌≡◌, true}")
         self.assert_found(
             "crates/base/proofs/Laws.antt:3: `sym` is brought in and not used", "crates/base/src/lib.rt:2: `true` is brought in and not used"
         )
@@ -1478,7 +1478,7 @@ hidden = b
 
 abbrev pub b : A
 unfoldable pub c {ℓ} : A
-unfoldable abbrev pub _≼_ : A
+unfoldable abbrev pub ◌≼◌ : A
 axiom pub d : A
 
 module _ (n : ℕ) where
@@ -1505,7 +1505,7 @@ mutual
 pub m :
     A → B
 """
-        names = [("a", 4), ("b", 10), ("c", 11), ("_≼_", 12), ("d", 13), ("e", 16), ("f", 20), ("R", 22), ("D", 25), ("S", 29), ("j", 32), ("l", 35), ("m", 36)]
+        names = [("a", 4), ("b", 10), ("c", 11), ("◌≼◌", 12), ("d", 13), ("e", 16), ("f", 20), ("R", 22), ("D", 25), ("S", 29), ("j", 32), ("l", 35), ("m", 36)]
         self.assertEqual(self.laws(text), names)
 
     def test_laws_that_nobody_uses(self):
@@ -1526,32 +1526,40 @@ pub m :
             self.assert_found()
         self.put("crates/base/proofs/Laws.antt", spare)
         for other in [
-            "use Rattle·base.proofs.Laws.{spare}\nf = spare",
-            "use Rattle·base.proofs.Laws.{spare as s}\nf = s",
-            "use Rattle·base.proofs.Laws as laws\nf = laws.spare",
-            "use Rattle·base.proofs\nf = proofs.Laws.spare",
-            "use Rattle·base.proofs as p\nuse p.Laws.{spare}\nf = spare",
-            "f = Rattle·base.proofs.Laws.spare",
-            "f = package.Rattle·base.proofs.Laws.spare",
-            "pub use Rattle·base.proofs.Laws.{spare}",
+            "use Rattle.base.proofs.Laws.{spare}\nf = spare",
+            "use Rattle.base.proofs.Laws.{spare as s}\nf = s",
+            "use Rattle.base.proofs.Laws as laws\nf = laws.spare",
+            "use Rattle.base.proofs\nf = proofs.Laws.spare",
+            "use Rattle.base.proofs as p\nuse p.Laws.{spare}\nf = spare",
+            "f = Rattle.base.proofs.Laws.spare",
+            "f = package.Rattle.base.proofs.Laws.spare",
+            "pub use Rattle.base.proofs.Laws.{spare}",
         ]:
             self.put("crates/over/specs/Over.antt", f"-- Over it.\n{other}\n")
             self.assert_found()
         self.put("crates/over/specs/Over.antt", "-- Over it.\n")
-        self.put("crates/base/proofs/add/Proof.antt", "-- `add`.\nuse Rattle·base·proofs.proofs.Laws.{spare}\nf = spare\n")
+        self.put("crates/base/proofs/add/Proof.antt", "-- `add`.\nuse Rattle.base.proofs.Laws.{spare}\nf = spare\n")
         self.assert_found()
         self.put("crates/base/proofs/add/Proof.antt", "-- `add`.\n")
-        self.put("crates/over/src/lib.rt", "// Over it.\nghost use Rattle·base.proofs.Laws.{spare};\n// ..\nensures { ⌜ spare ⌝ }\n")
+        self.put("crates/over/src/lib.rt", "// Over it.\nghost use Rattle.base.proofs.Laws.{spare};\n// ..\nensures { spare }\n")
         self.assert_found()
+        (self.root / "crates/over/src/lib.rt").unlink()
+        for crate, given in [("base", "crate::proofs::Laws::spare"), ("over", "base::proofs::Laws::spare"), ("over", "x::specs::Sums::y, base::proofs::Laws::spare")]:
+            self.put(f"crates/{crate}/src/more.rt", f"// More.\n#[tactic(auto, using({given}), unfolding(crate::specs::Sums::twice))]\nfn f() {{}}\n")
+            self.assert_found()
+            (self.root / f"crates/{crate}/src/more.rt").unlink()
 
     def test_a_law_of_the_same_name_is_another(self):
         self.put("crates/base/proofs/Laws.antt", self.LAWS + "\npub spare : ℕ\nspare = 1\n")
         unused = "crates/base/proofs/Laws.antt:14: nothing uses `spare`, and docs/PROMISES.md does not name it"
-        for other in ["use Rattle·far.proofs.Laws.{spare}\nf = spare", "spare : ℕ\nspare = 1", "use Rattle·base.proofs.Tools as t\nf = t.spare"]:
+        for other in ["use Rattle.far.proofs.Laws.{spare}\nf = spare", "spare : ℕ\nspare = 1", "use Rattle.base.proofs.Tools as t\nf = t.spare"]:
             self.put("crates/over/specs/Over.antt", f"-- Over it.\n{other}\n")
             self.assert_found(unused)
+        for given in ["crate::proofs::Laws::spare", "base::proofs::Tools::spare", "base::proofs::Laws::spared", "base::other::spare"]:
+            self.put("crates/over/src/lib.rt", f"// Over it.\n#![tactic(auto, using({given}))]\n")
+            self.assert_found(unused)
         # One that is brought in and not used has no user in that.
-        self.put("crates/over/specs/Over.antt", "-- Over it.\nuse Rattle·base.proofs.Laws.{spare}\n")
+        self.put("crates/over/specs/Over.antt", "-- Over it.\nuse Rattle.base.proofs.Laws.{spare}\n")
         self.assert_found(unused, "crates/over/specs/Over.antt:2: `spare` is brought in and not used")
 
     def test_laws_that_are_promised(self):
