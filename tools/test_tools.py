@@ -2254,6 +2254,7 @@ class Gate(unittest.TestCase):
     """.ci/run in a repository of its own, with scripts in place of rt and of what it runs."""
 
     TALLY = "216 passed, 0 failed"
+    OK = "rt: ok; handles allowed: none; must-fail edits: 2 refused; every proof and must-fail edit was done in this run"
 
     def setUp(self):
         directory = tempfile.TemporaryDirectory()
@@ -2266,6 +2267,9 @@ class Gate(unittest.TestCase):
         self.write_test("pass")
         self.write_runs("pass")
         self.write_check("pass")
+        for edit in ("base/must-fail/minus.edit", "base/must-fail/README.md", "over/must-fail/plus.edit"):
+            (self.root / "crates" / edit).parent.mkdir(parents=True, exist_ok=True)
+            (self.root / "crates" / edit).write_text("")
         (self.root / ".ci").mkdir()
         shutil.copy(ROOT / ".ci" / "run", self.root / ".ci" / "run")
 
@@ -2275,9 +2279,9 @@ class Gate(unittest.TestCase):
         path.write_text(f"#!/bin/sh\n{words}\n")
         path.chmod(0o755)
 
-    def rt(self, fmt="exit 0", ci=f"echo rt: ok; echo {TALLY}"):
-        """The stand-in of rt, which removes target/ as the real one does."""
-        self.script("bin/rt", f"echo \"rt $*\" >>ran\ncase $1 in\nfmt) {fmt} ;;\nci) rm -rf target; mkdir target; {ci} ;;\nesac")
+    def rt(self, ci=f"echo '{OK}'; echo {TALLY}"):
+        """The stand-in of rt."""
+        self.script("bin/rt", f"echo \"rt $*\" >>ran\ncase $1 in\nci) {ci} ;;\nesac")
 
     def write_test(self, words):
         text = f"import unittest\n\nclass One(unittest.TestCase):\n    def test_one(self):\n        open('ran', 'a').write('tests\\n'); {words}\n"
@@ -2299,8 +2303,8 @@ class Gate(unittest.TestCase):
         ran = (self.root / "ran").read_text().splitlines() if (self.root / "ran").exists() else []
         return done.returncode, done.stdout.decode(), ran
 
-    ALL = ["rt fmt --check", "house", "tests", "rt ci", "runs", "bindings "]
-    ALL += ["instructions target/staticlib/libkernel.a", "instructions --put target/staticlib/libkernel.a"]
+    ALL = ["house", "tests", "rt ci", "runs", "bindings "]
+    ALL += ["instructions crates/kernel/out/libkernel.a", "instructions --put crates/kernel/out/libkernel.a"]
 
     def assert_fails(self, status, last, parts):
         found, said, ran = self.gate()
@@ -2309,7 +2313,7 @@ class Gate(unittest.TestCase):
     def test_all_pass(self):
         status, said, ran = self.gate()
         self.assertEqual((status, said.splitlines()[-1], ran), (0, self.TALLY, self.ALL), said)
-        self.assertEqual((self.root / "target" / "rt-ci.txt").read_text(), f"rt: ok\n{self.TALLY}\n")
+        self.assertEqual((self.root / "target" / "rt-ci.txt").read_text(), f"{self.OK}\n{self.TALLY}\n")
 
     def test_from_its_own_folder_and_with_a_search_path_for_cd(self):
         os.makedirs(self.root / "elsewhere" / ".ci")
@@ -2318,47 +2322,81 @@ class Gate(unittest.TestCase):
             self.assertEqual((status, said.splitlines()[-1]), (0, self.TALLY), said)
 
     def test_closed_input(self):
-        self.rt(ci=f"cat; echo {self.TALLY}")
+        self.rt(ci=f"cat; echo '{self.OK}'; echo {self.TALLY}")
         status, said, _ = self.gate(stdin=None, preexec_fn=lambda: os.close(0))
         self.assertEqual((status, said.splitlines()[-1]), (0, self.TALLY), said)
 
     def test_input_is_left_alone(self):
-        self.rt(ci=f"cat; echo {self.TALLY}")
+        self.rt(ci=f"cat; echo '{self.OK}'; echo {self.TALLY}")
         reader, writer = os.pipe()  # which never ends
         status, said, _ = self.gate(stdin=reader, timeout=60)
         os.close(reader)
         os.close(writer)
         self.assertEqual((status, said.splitlines()[-1]), (0, self.TALLY), said)
 
-    def test_the_layout_fails(self):
-        self.rt(fmt="echo not in the layout: a.rt; exit 1")
-        self.assert_fails(1, "FAILED: the layout of every file (status 1)", 1)
+    def test_nothing_is_there_before_rt_ci(self):
+        before = {path for path in self.root.rglob("*")}
+        self.rt(ci=f"find . | sort >found; echo '{self.OK}'; echo {self.TALLY}")
+        self.assertEqual(self.gate()[0], 0)
+        found = {self.root / name for name in (self.root / "found").read_text().splitlines()}
+        self.assertEqual(found - before - {self.root, self.root / "found", self.root / "ran"}, set())
+        self.assertEqual(before - found, set())
 
     def test_the_rules_fail(self):
         self.script("tools/house", "echo house >>ran; echo a.rt:1: something; exit 1")
-        self.assert_fails(1, "FAILED: the rules of the repository (status 1)", 2)
+        self.assert_fails(1, "FAILED: the rules of the repository (status 1)", 1)
 
     def test_the_tests_fail(self):
         self.write_test("self.fail()")
-        self.assert_fails(1, "FAILED: the tests of tools/ (status 1)", 3)
+        self.assert_fails(1, "FAILED: the tests of tools/ (status 1)", 2)
 
     def test_rt_ci_fails(self):
         for status in (1, 2, 3):
             self.rt(ci=f"echo rt: FAILED; echo 215 passed, 1 failed; exit {status}")
-            self.assert_fails(status, "215 passed, 1 failed", 4)
+            self.assert_fails(status, "215 passed, 1 failed", 3)
             (self.root / "ran").unlink()
-        self.assertIn("FAILED: everything proved from nothing", self.gate()[1])
+        self.assertIn("FAILED: everything proved, ", self.gate()[1])
+
+    PROVED = "everything proved, every must-fail edit refused, every program run"
 
     def test_rt_ci_breaks_off(self):
-        part = "everything proved from nothing, every must-fail edit refused, every program run"
-        for ci, status in [("echo rt: no toolchain >&2; exit 2", 2), (f"echo {self.TALLY}; exit 1", 1), ("kill -9 $$", 137), (f"echo {self.TALLY}; echo more", 1), ("true", 1)]:
+        ok = f"echo '{self.OK}'"
+        for ci, status in [
+            ("echo rt: no toolchain >&2; exit 2", 2),
+            (f"{ok}; echo {self.TALLY}; exit 1", 1),
+            ("kill -9 $$", 137),
+            (f"{ok}; echo {self.TALLY}; echo more", 1),
+            (f"{ok}; echo '{self.TALLY} (base and the crates below alone: not the gate)'", 1),
+            (f"{ok}; echo 'only {self.TALLY}'", 1),
+            (f"echo {self.TALLY}", 1),
+            (f"echo rt: okay; echo {self.TALLY}", 1),
+            ("true", 1),
+        ]:
             self.rt(ci=ci)
-            self.assert_fails(status, f"FAILED: {part} (status {status})", 4)
+            self.assert_fails(status, f"FAILED: {self.PROVED} (status {status})", 3)
             (self.root / "ran").unlink()
+
+    def test_must_fail_edits_that_show_nothing(self):
+        rest = "done in this run: 1 of the 4 proofs (of crates and of their tests) and 1 of the 2 must-fail edits"
+        for ok, more, wanted in [
+            (f"rt: ok; handles allowed: none; must-fail edits: 2 refused, 1 of them only by a limit; {rest}", "", 0),
+            (f"rt: ok; handles allowed: none; must-fail edits: 2 refused, 0 bad; {rest}", "", 0),
+            (f"rt: ok; handles allowed: none; must-fail edits: 2 refused, 1 bad; {rest}", "", 1),
+            (f"rt: ok; handles allowed: none; must-fail edits: 2 refused, 10 bad; {rest}", "", 1),
+            (f"rt: ok; handles allowed: none; must-fail edits: 1 refused, 1 of them only by a limit, 1 bad; {rest}", "", 1),
+            (f"rt: ok; handles allowed: none; must-fail edits: 1 refused; {rest}", "", 1),
+            (f"rt: ok; handles allowed: none; {rest}", "", 1),
+            (self.OK, "rt: base/minus: BAD EDIT: its old text stands there 2 times", 1),
+            (self.OK, "rt: base/minus: NOT TRIED: its check was killed", 1),
+        ]:
+            self.rt(ci=f"echo '{more}'; echo '{ok}'; echo {self.TALLY}")
+            with self.subTest(ok=ok, more=more):
+                status, said, _ = self.gate()
+                self.assertEqual((status, said.splitlines()[-1]), (wanted, f"FAILED: {self.PROVED} (status 1)" if wanted else self.TALLY), said)
 
     def test_the_runs_fail(self):
         self.write_runs("raise SystemExit(1)")
-        self.assert_fails(1, "FAILED: rowrun where reading or writing does not go well (status 1)", 5)
+        self.assert_fails(1, "FAILED: rowrun where reading or writing does not go well (status 1)", 4)
 
     def test_the_bindings_fail(self):
         self.script("bindings/run", "echo bindings >>ran; echo 4 parts passed, 1 failed; exit 1")
@@ -2366,7 +2404,7 @@ class Gate(unittest.TestCase):
         self.assertEqual((status, said.splitlines()[-1]), (1, "FAILED: the bindings, on the library that was proved (status 1)"))
 
     def test_the_root_fails(self):
-        for words, status, parts in [("sys.exit(1)", 1, 7), ("sys.exit(2)", 2, 7), ("sys.exit('--put' in sys.argv)", 1, 8)]:
+        for words, status, parts in [("sys.exit(1)", 1, 6), ("sys.exit(2)", 2, 6), ("sys.exit('--put' in sys.argv)", 1, 7)]:
             self.write_check(words)
             self.assert_fails(status, f"FAILED: the root without a multiply or a divide, in the library that was proved (status {status})", parts)
             (self.root / "ran").unlink()
@@ -2375,10 +2413,10 @@ class Gate(unittest.TestCase):
         (self.root / "bin" / "rt").unlink()
         if shutil.which("rt", path="/usr/bin:/bin"):
             self.skipTest("rt stands among the commands of the system")
-        self.assert_fails(127, "FAILED: the layout of every file (status 127)", 0)
+        self.assert_fails(127, f"FAILED: {self.PROVED} (status 127)", 2)
 
     def test_output_is_shown_as_it_comes(self):
-        self.rt(ci=f"echo one; until [ -f seen ]; do sleep 0.05; done; echo {self.TALLY}")
+        self.rt(ci=f"echo one; until [ -f seen ]; do sleep 0.05; done; echo '{self.OK}'; echo {self.TALLY}")
         environment = {"PATH": f"{self.root / 'bin'}:/usr/bin:/bin"}
         with subprocess.Popen([str(self.root / ".ci" / "run")], stdout=subprocess.PIPE, stderr=subprocess.STDOUT, env=environment) as running:
             said = ""
@@ -2389,7 +2427,7 @@ class Gate(unittest.TestCase):
         self.assertEqual((running.returncode, said.splitlines()[-1]), (0, self.TALLY))
 
     def test_closed_output(self):
-        self.rt(ci=f"sleep 0.3; echo {self.TALLY}; exit 0")
+        self.rt(ci=f"sleep 0.3; echo '{self.OK}'; echo {self.TALLY}; exit 0")
         with subprocess.Popen([str(self.root / ".ci" / "run")], stdout=subprocess.PIPE, stderr=subprocess.PIPE, env={"PATH": f"{self.root / 'bin'}:/usr/bin:/bin"}) as running:
             running.stdout.close()
             running.stderr.read()
