@@ -752,7 +752,7 @@ class Example(unittest.TestCase):
 
     def test_rowrun_answers_so(self):
         if not os.access(answer.PROGRAM, os.X_OK):
-            self.skipTest("there is no target/bin/rowrun")
+            self.skipTest("there is no crates/rowrun/out/rowrun")
         try:
             words = answer.way_to_run()
         except answer.Failure as wrong:
@@ -1079,6 +1079,7 @@ class Words(unittest.TestCase):
             self.assertEqual(str(caught.exception), wanted)
 
 
+@unittest.skipUnless(platform.machine() == "x86_64", "rowrun is for x86-64")
 class Answering(unittest.TestCase):
     """tools/answer in a repository of its own, with scripts in place of rt and rowrun."""
 
@@ -1087,12 +1088,9 @@ class Answering(unittest.TestCase):
         self.addCleanup(directory.cleanup)
         self.root = pathlib.Path(directory.name)
         shutil.copytree(HERE, self.root / "tools", ignore=shutil.ignore_patterns("__pycache__"))
-        self.rowrun = self.root / "target" / "bin" / "rowrun"
+        self.rowrun = self.root / "crates" / "rowrun" / "out" / "rowrun"
         self.picture = self.root / "picture.svg"
         self.problem = self.root / "tools" / "example.txt"
-        # On another processor than x86-64 rowrun is run by the kit's emulator, for which a script stands in as well.
-        kit = self.root / "kit" / "on" / os.uname().machine / "toolchain"
-        self.script(kit / "bin" / "qemu-x86_64", 'shift 3\nexec "$@"')
         self.system = os.pathsep.join(["/usr/bin", "/bin"])
         self.path = os.pathsep.join([str(self.root / "bin"), self.system])
         self.prints(f"{EXAMPLE_LINE}\nend 1")
@@ -1113,7 +1111,7 @@ class Answering(unittest.TestCase):
         return path
 
     def answer(self, *arguments, path=None, **streams):
-        environment = dict(os.environ, PATH=path or self.path, RATTLE_HOME=str(self.root / "kit"))
+        environment = dict(os.environ, PATH=path or self.path)
         words = [sys.executable, str(self.root / "tools" / "answer"), *map(str, arguments)]
         streams = {"stdin": subprocess.DEVNULL, "stdout": subprocess.PIPE, **streams}
         done = subprocess.run(words, stderr=subprocess.PIPE, env=environment, cwd="/", **streams)
@@ -1196,41 +1194,38 @@ class Answering(unittest.TestCase):
     def test_rt_decides_whether_the_program_is_old(self):
         newer = self.root / "newer"
         self.script(newer, "cat >/dev/null\necho 1 nothing - - 3\necho end 1")
-        self.script(self.root / "bin" / "rt", f'echo "$PWD $*" >"{self.root}/asked"; cp "{newer}" target/bin/rowrun; echo noise; echo noise >&2')
+        self.script(self.root / "bin" / "rt", f'echo "$PWD $*" >"{self.root}/asked"; cat >>"{self.root}/asked"; cp "{newer}" out/rowrun; echo noise; echo noise >&2')
         status, said, wrong = self.answer(self.problem)
         self.assertEqual((status, said.splitlines()[-3], wrong), (0, "1 nothing - - 3", ""))
         self.assertNotIn("noise", said)
-        self.assertEqual((self.root / "asked").read_text(), f"{self.root.resolve()} check rowrun\n")
+        self.assertEqual((self.root / "asked").read_text(), f"{self.root.resolve()}/crates/rowrun run\n")
 
     def test_a_program_that_is_not_proved_is_not_used(self):
         self.script(self.root / "bin" / "rt", "echo rt: rowrun NOT PROVED; exit 3")
         status, said, wrong = self.answer(self.problem, self.picture)
         self.assertEqual((status, said), (1, ""))
-        self.assertEqual(wrong, "rt: rowrun NOT PROVED\nrt check rowrun ended with status 3, and rowrun is not used\n")
+        self.assertEqual(wrong, "rt: rowrun NOT PROVED\nrt run in crates/rowrun ended with status 3, and rowrun is not used\n")
         self.assertFalse(self.picture.exists())
 
     def test_a_program_that_went_missing_is_built_again(self):
         self.rowrun.rename(self.root / "kept")
-        stamp = self.root / "target" / "stamp" / "rowrun"
-        stamp.parent.mkdir()
-        stamp.write_text("unchanged")
-        self.script(self.root / "bin" / "rt", f'[ -f target/stamp/rowrun ] || cp "{self.root}/kept" target/bin/rowrun')
+        self.script(self.root / "bin" / "rt", f'[ -f out/rowrun ] || cp "{self.root}/kept" out/rowrun')
         self.assertEqual(self.answer(self.problem)[0], 0)
 
     def test_rt_that_builds_nothing(self):
         self.rowrun.unlink()
         self.script(self.root / "bin" / "rt", "echo ok")
-        self.assertEqual(self.answer(self.problem), (1, "", "ok\nrt check rowrun left no target/bin/rowrun\n"))
+        self.assertEqual(self.answer(self.problem), (1, "", "ok\nrt run in crates/rowrun left no crates/rowrun/out/rowrun\n"))
 
     def test_without_rt(self):
         if shutil.which("rt", path=self.system):
             self.skipTest("rt stands among the commands of the system")
         status, said, wrong = self.answer(self.problem, path=self.system)
         self.assertEqual((status, said.splitlines()[-1]), (0, "end 1"))
-        self.assertEqual(wrong, "there is no rt on PATH: target/bin/rowrun is used as it stands, and may be older than its sources\n")
+        self.assertEqual(wrong, "there is no rt on PATH: crates/rowrun/out/rowrun is used as it stands, and may be older than its sources\n")
         self.rowrun.unlink()
         status, said, wrong = self.answer(self.problem, path=self.system)
-        message = "there is no target/bin/rowrun, and no rt on PATH to prove and build it: the Rattle kit has it\n"
+        message = "there is no crates/rowrun/out/rowrun, and no rt on PATH to prove and build it: the Rattle kit has it\n"
         self.assertEqual((status, said, wrong), (1, "", message))
 
     def test_whoever_waits_is_told_why(self):
@@ -2076,8 +2071,7 @@ class InstructionsOfBuilds(unittest.TestCase):
         directory = tempfile.TemporaryDirectory()
         self.addCleanup(directory.cleanup)
         self.object = pathlib.Path(directory.name) / "kernel.o"
-        self.kit = pathlib.Path(os.environ.get("RATTLE_HOME") or pathlib.Path(shutil.which("rt")).resolve().parent.parent)
-        self.tools = self.kit / "on" / platform.machine() / "toolchain" / "bin"
+        self.tools = pathlib.Path(shutil.which("rt")).resolve().parent.parent / "toolchain" / "bin"
 
     def build(self, put, *target):
         words = [self.tools / "clang", *(target or ["--target=x86_64-unknown-linux-gnu"]), "--no-default-config", "-fintegrated-cc1"]
