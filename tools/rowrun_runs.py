@@ -1,11 +1,12 @@
 #!/usr/bin/env python3
-# Needs Python 3.8 or newer, and target/bin/rowrun, which `rt check rowrun` proves and builds.
+# Needs Python 3.8 or newer, and crates/rowrun/out/rowrun, which `rt ci`, and `rt run` in crates/rowrun, prove and build.
 """Runs rowrun where reading or writing does not go well: what fails is said on standard error, and then there is no `end`; what
 only has to wait loses nothing. `.ci/run` runs it, on the program that was proved."""
 
 import fcntl
 import os
 import subprocess
+import sys
 import tempfile
 import threading
 import time
@@ -101,4 +102,6 @@ class Runs(unittest.TestCase):
 
 
 if __name__ == "__main__":
+    if not os.access(ANSWER.PROGRAM, os.X_OK):
+        sys.exit(f"there is no {ANSWER.SHOWN}: rt ci proves and builds it, and so does rt run in crates/rowrun")
     unittest.main()

@@ -1,4 +1,5 @@
 #!/usr/bin/env python3
+# Needs Python 3.8 or newer, and nothing else.
 """Spells the choice between two values, which float/specs/Operators.antt defines, `when b then x else y`, since the prover's library now has an
 `if◌then◌else◌` of its own and lets no other stand under that name.
 

@@ -1,4 +1,5 @@
 #!/usr/bin/env python3
+# Needs Python 3.8 or newer, and nothing else.
 """Spells this repository's own definitions, lemmas, fields and constructors as its prover's library does: in snake case, types and modules in upper
 camel case. A dash stays where it joins two names that are defined, as in `length-rows_of`; where it joins plain words, `_` takes its place.
 

@@ -752,7 +752,7 @@ class Example(unittest.TestCase):
 
     def test_rowrun_answers_so(self):
         if not os.access(answer.PROGRAM, os.X_OK):
-            self.skipTest("there is no target/bin/rowrun")
+            self.skipTest("there is no crates/rowrun/out/rowrun")
         try:
             words = answer.way_to_run()
         except answer.Failure as wrong:
@@ -1079,6 +1079,7 @@ class Words(unittest.TestCase):
             self.assertEqual(str(caught.exception), wanted)
 
 
+@unittest.skipUnless(platform.machine() == "x86_64", "rowrun is for x86-64")
 class Answering(unittest.TestCase):
     """tools/answer in a repository of its own, with scripts in place of rt and rowrun."""
 
@@ -1087,12 +1088,9 @@ class Answering(unittest.TestCase):
         self.addCleanup(directory.cleanup)
         self.root = pathlib.Path(directory.name)
         shutil.copytree(HERE, self.root / "tools", ignore=shutil.ignore_patterns("__pycache__"))
-        self.rowrun = self.root / "target" / "bin" / "rowrun"
+        self.rowrun = self.root / "crates" / "rowrun" / "out" / "rowrun"
         self.picture = self.root / "picture.svg"
         self.problem = self.root / "tools" / "example.txt"
-        # On another processor than x86-64 rowrun is run by the kit's emulator, for which a script stands in as well.
-        kit = self.root / "kit" / "on" / os.uname().machine / "toolchain"
-        self.script(kit / "bin" / "qemu-x86_64", 'shift 3\nexec "$@"')
         self.system = os.pathsep.join(["/usr/bin", "/bin"])
         self.path = os.pathsep.join([str(self.root / "bin"), self.system])
         self.prints(f"{EXAMPLE_LINE}\nend 1")
@@ -1113,7 +1111,7 @@ class Answering(unittest.TestCase):
         return path
 
     def answer(self, *arguments, path=None, **streams):
-        environment = dict(os.environ, PATH=path or self.path, RATTLE_HOME=str(self.root / "kit"))
+        environment = dict(os.environ, PATH=path or self.path)
         words = [sys.executable, str(self.root / "tools" / "answer"), *map(str, arguments)]
         streams = {"stdin": subprocess.DEVNULL, "stdout": subprocess.PIPE, **streams}
         done = subprocess.run(words, stderr=subprocess.PIPE, env=environment, cwd="/", **streams)
@@ -1196,41 +1194,38 @@ class Answering(unittest.TestCase):
     def test_rt_decides_whether_the_program_is_old(self):
         newer = self.root / "newer"
         self.script(newer, "cat >/dev/null\necho 1 nothing - - 3\necho end 1")
-        self.script(self.root / "bin" / "rt", f'echo "$PWD $*" >"{self.root}/asked"; cp "{newer}" target/bin/rowrun; echo noise; echo noise >&2')
+        self.script(self.root / "bin" / "rt", f'echo "$PWD $*" >"{self.root}/asked"; cat >>"{self.root}/asked"; cp "{newer}" out/rowrun; echo noise; echo noise >&2')
         status, said, wrong = self.answer(self.problem)
         self.assertEqual((status, said.splitlines()[-3], wrong), (0, "1 nothing - - 3", ""))
         self.assertNotIn("noise", said)
-        self.assertEqual((self.root / "asked").read_text(), f"{self.root.resolve()} check rowrun\n")
+        self.assertEqual((self.root / "asked").read_text(), f"{self.root.resolve()}/crates/rowrun run\n")
 
     def test_a_program_that_is_not_proved_is_not_used(self):
         self.script(self.root / "bin" / "rt", "echo rt: rowrun NOT PROVED; exit 3")
         status, said, wrong = self.answer(self.problem, self.picture)
         self.assertEqual((status, said), (1, ""))
-        self.assertEqual(wrong, "rt: rowrun NOT PROVED\nrt check rowrun ended with status 3, and rowrun is not used\n")
+        self.assertEqual(wrong, "rt: rowrun NOT PROVED\nrt run in crates/rowrun ended with status 3, and rowrun is not used\n")
         self.assertFalse(self.picture.exists())
 
     def test_a_program_that_went_missing_is_built_again(self):
         self.rowrun.rename(self.root / "kept")
-        stamp = self.root / "target" / "stamp" / "rowrun"
-        stamp.parent.mkdir()
-        stamp.write_text("unchanged")
-        self.script(self.root / "bin" / "rt", f'[ -f target/stamp/rowrun ] || cp "{self.root}/kept" target/bin/rowrun')
+        self.script(self.root / "bin" / "rt", f'[ -f out/rowrun ] || cp "{self.root}/kept" out/rowrun')
         self.assertEqual(self.answer(self.problem)[0], 0)
 
     def test_rt_that_builds_nothing(self):
         self.rowrun.unlink()
         self.script(self.root / "bin" / "rt", "echo ok")
-        self.assertEqual(self.answer(self.problem), (1, "", "ok\nrt check rowrun left no target/bin/rowrun\n"))
+        self.assertEqual(self.answer(self.problem), (1, "", "ok\nrt run in crates/rowrun left no crates/rowrun/out/rowrun\n"))
 
     def test_without_rt(self):
         if shutil.which("rt", path=self.system):
             self.skipTest("rt stands among the commands of the system")
         status, said, wrong = self.answer(self.problem, path=self.system)
         self.assertEqual((status, said.splitlines()[-1]), (0, "end 1"))
-        self.assertEqual(wrong, "there is no rt on PATH: target/bin/rowrun is used as it stands, and may be older than its sources\n")
+        self.assertEqual(wrong, "there is no rt on PATH: crates/rowrun/out/rowrun is used as it stands, and may be older than its sources\n")
         self.rowrun.unlink()
         status, said, wrong = self.answer(self.problem, path=self.system)
-        message = "there is no target/bin/rowrun, and no rt on PATH to prove and build it: the Rattle kit has it\n"
+        message = "there is no crates/rowrun/out/rowrun, and no rt on PATH to prove and build it: the Rattle kit has it\n"
         self.assertEqual((status, said, wrong), (1, "", message))
 
     def test_whoever_waits_is_told_why(self):
@@ -1289,9 +1284,9 @@ class House(unittest.TestCase):
     """The rules of the repository, on a small one in which nothing breaks them."""
 
     LAWS = """-- What adding does.
-use mathlib.Core.Path.{_≡_, refl, ap as by}
-use Rattle·base·specs.specs.Sums.{_⊞_, twice, if_then_else_}
-use Rattle·base·proofs.proofs.Tools as tools
+use mathlib.Core.Path.{◌≡◌, refl, ap as by}
+use Rattle.base.specs.Sums.{◌⊞◌, twice, if◌then◌else◌}
+use Rattle.base.proofs.Tools as tools
 
 pub zero-left : (n : ℕ) → zero ⊞ n ≡ n
 zero-left zero = refl
@@ -1302,17 +1297,17 @@ unfolding twice
 right n = zero-left n
 """
     SUMS = """-- Sums. Assumes nothing.
-use Prim.Native.Nat.{ℕ, _+_}
+use Prim.Native.Nat.{ℕ, ◌+◌}
 
-unfoldable pub _⊞_ : ℕ → ℕ → ℕ
-_⊞_ a b = a + b
+unfoldable pub ◌⊞◌ : ℕ → ℕ → ℕ
+◌⊞◌ a b = a + b
 """
     CODE = """// Adds two numbers.
-ghost use mathlib.Core.Path.{_≡_};
+ghost use mathlib.Core.Path.{◌≡◌};
 use base::Number;
 
 pub fn add(a: u64, b: u64) -> u64
-    ensures { λ r. ⌜ r ≡ a ⌝ }
+    ensures { result ≡ a }
 {
     a + b
 }
@@ -1359,7 +1354,7 @@ pub fn add(a: u64, b: u64) -> u64
         self.assert_found()
         self.put("crates/base/specs/Sums.antt", self.SUMS + "-- " + "ℕ" * 158 + "\n")
         self.put("crates/base/notes.txt", "a" * 200)
-        for data in ("stdin", "stdout", "args", "data/deep/file", "must-fail/README"):
+        for data in ("stdin", "stdout", "args", "status", "data/deep/file", "must-fail/README", "out/made/a.antt"):
             self.put(f"crates/base/{data}", "a" * 200)
         self.assert_found(
             "crates/base/notes.txt:1: 200 characters, and 160 are the most",
@@ -1381,7 +1376,7 @@ pub fn add(a: u64, b: u64) -> u64
         self.assert_found()
 
     def test_a_list_of_modules_needs_no_opening(self):
-        self.put("crates/base/specs/Lib.antt", "pub mod Sums\n-- a remark\npub mod More\n")
+        self.put("crates/base/specs/Lib.antt", "pub mod Sums\n-- a remark\nmod More\npub mod Others\n")
         self.assert_found()
         self.put("crates/base/specs/Lib.antt", "pub mod Sums\n\npub one : ℕ\none = 1\n")
         self.put("crates/base/specs/Other.antt", "pub mod Sums\n")
@@ -1416,8 +1411,8 @@ pub fn add(a: u64, b: u64) -> u64
             ("use M.N", "f = M.a", ["N"]),
             ("use M.N as O", "f = O.a", []),
             ("use M.N as O", "f = N.a", ["O"]),
-            ("use M.T.the-variants.{Left, Right}", "f Left = Right", []),
-            ("use M.T.the-variants as is", "f is.Left = b", []),
+            ("use M.T.TheVariants.{Left, Right}", "f Left = Right", []),
+            ("use M.T.TheVariants as Is", "f Is.Left = b", []),
             ("pub use M.{a}", "f = b", ["a"]),  # passed on, which the rule lets be
         ]:
             with self.subTest(use=use, body=body):
@@ -1425,19 +1420,19 @@ pub fn add(a: u64, b: u64) -> u64
 
     def test_operators_that_are_not_used(self):
         for use, body, wanted in [
-            ("use M.{_≡_, _≤_}", "f : a ≡ b", ["_≤_"]),
-            ("use M.{_+_, _-_}", "f = map (_+ 1) (map (1 -_) xs)", []),
-            ("use M.{_+_, _-_}", "f = fold _+_ xs", ["_-_"]),
-            ("use M.{¬_}", "f : ¬ A", []),
-            ("use M.{if_then_else_}", "f = if a then b else c", []),
-            ("use M.{if_then_else_}", "f = if a then b", ["if_then_else_"]),
-            ("use M.{if_then_else_}", "f : A\nunfolding if_then_else_", []),
-            ("use M.{[], _∷_}", "f = 1 ∷ []", []),
-            ("use M.{[] as none, _∷_ as _then_}", "f = 1 then none", []),
-            ("use M.{[], _∷_}", "f = elim x [ a ↦ b | c ↦ d ]", ["[]", "_∷_"]),
-            ("use M.{∥_∥₁}", "f : ∥ A ∥₁", []),
-            ("use M.{_>>=_, _>>_}", "f = do\n  x ← m\n  n", []),
-            ("use M.{_>>=_, _>>_}", "f = m", ["_>>=_", "_>>_"]),
+            ("use M.{◌≡◌, ◌≤◌}", "f : a ≡ b", ["◌≤◌"]),
+            ("use M.{◌+◌, ◌-◌}", "f = map (◌+ 1) (map (1 -◌) xs)", []),
+            ("use M.{◌+◌, ◌-◌}", "f = fold ◌+◌ xs", ["◌-◌"]),
+            ("use M.{¬◌}", "f : ¬ A", []),
+            ("use M.{if◌then◌else◌}", "f = if a then b else c", []),
+            ("use M.{if◌then◌else◌}", "f = if a then b", ["if◌then◌else◌"]),
+            ("use M.{if◌then◌else◌}", "f : A\nunfolding if◌then◌else◌", []),
+            ("use M.{[], ◌∷◌}", "f = 1 ∷ []", []),
+            ("use M.{[] as none, ◌∷◌ as ◌then◌}", "f = 1 then none", []),
+            ("use M.{[], ◌∷◌}", "f = elim x [ a ↦ b | c ↦ d ]", ["[]", "◌∷◌"]),
+            ("use M.{∥◌∥₁}", "f : ∥ A ∥₁", []),
+            ("use M.{◌>>=◌, ◌>>◌}", "f = do\n  x ← m\n  n", []),
+            ("use M.{◌>>=◌, ◌>>◌}", "f = m", ["◌>>=◌", "◌>>◌"]),
             ("use M.{«in»}", "f = «in»", []),
         ]:
             with self.subTest(use=use, body=body):
@@ -1445,8 +1440,8 @@ pub fn add(a: u64, b: u64) -> u64
 
     def test_ghosts_that_are_not_used(self):
         for use, body, wanted in [
-            ("ghost use M.{_≡_, length};", "ensures { λ r. ⌜ r ≡ 1 ⌝ }", ["length"]),
-            ("ghost use M as ghost;", "ensures { ⌜ ghost.a ⌝ }", []),
+            ("ghost use M.{◌≡◌, length};", "ensures { result ≡ 1 }", ["length"]),
+            ("ghost use M as ghost;", "ensures { ghost.a }", []),
             ("ghost use M.{a};", "// a", ["a"]),
             ("ghost use M.{a};", "let q = b'\"'; a", []),
             ("use m::Thing;", "f()", []),
@@ -1455,8 +1450,8 @@ pub fn add(a: u64, b: u64) -> u64
                 self.assertEqual(self.unused(use, body, "rt"), wanted)
 
     def test_an_unused_name_is_found_where_it_stands(self):
-        self.change("crates/base/proofs/Laws.antt", "{_≡_, refl,", "{_≡_,\n    sym, refl,")
-        self.change("crates/base/src/lib.rt", "{_≡_}", "{_≡_, true}")
+        self.change("crates/base/proofs/Laws.antt", "{◌≡◌, refl,", "{◌≡◌,\n    sym, refl,")
+        self.change("crates/base/src/lib.rt", "{◌≡◌}", "{◌≡◌, true}")
         self.assert_found(
             "crates/base/proofs/Laws.antt:3: `sym` is brought in and not used", "crates/base/src/lib.rt:2: `true` is brought in and not used"
         )
@@ -1478,7 +1473,7 @@ hidden = b
 
 abbrev pub b : A
 unfoldable pub c {ℓ} : A
-unfoldable abbrev pub _≼_ : A
+unfoldable abbrev pub ◌≼◌ : A
 axiom pub d : A
 
 module _ (n : ℕ) where
@@ -1505,7 +1500,7 @@ mutual
 pub m :
     A → B
 """
-        names = [("a", 4), ("b", 10), ("c", 11), ("_≼_", 12), ("d", 13), ("e", 16), ("f", 20), ("R", 22), ("D", 25), ("S", 29), ("j", 32), ("l", 35), ("m", 36)]
+        names = [("a", 4), ("b", 10), ("c", 11), ("◌≼◌", 12), ("d", 13), ("e", 16), ("f", 20), ("R", 22), ("D", 25), ("S", 29), ("j", 32), ("l", 35), ("m", 36)]
         self.assertEqual(self.laws(text), names)
 
     def test_laws_that_nobody_uses(self):
@@ -1526,32 +1521,40 @@ pub m :
             self.assert_found()
         self.put("crates/base/proofs/Laws.antt", spare)
         for other in [
-            "use Rattle·base.proofs.Laws.{spare}\nf = spare",
-            "use Rattle·base.proofs.Laws.{spare as s}\nf = s",
-            "use Rattle·base.proofs.Laws as laws\nf = laws.spare",
-            "use Rattle·base.proofs\nf = proofs.Laws.spare",
-            "use Rattle·base.proofs as p\nuse p.Laws.{spare}\nf = spare",
-            "f = Rattle·base.proofs.Laws.spare",
-            "f = package.Rattle·base.proofs.Laws.spare",
-            "pub use Rattle·base.proofs.Laws.{spare}",
+            "use Rattle.base.proofs.Laws.{spare}\nf = spare",
+            "use Rattle.base.proofs.Laws.{spare as s}\nf = s",
+            "use Rattle.base.proofs.Laws as laws\nf = laws.spare",
+            "use Rattle.base.proofs\nf = proofs.Laws.spare",
+            "use Rattle.base.proofs as p\nuse p.Laws.{spare}\nf = spare",
+            "f = Rattle.base.proofs.Laws.spare",
+            "f = package.Rattle.base.proofs.Laws.spare",
+            "pub use Rattle.base.proofs.Laws.{spare}",
         ]:
             self.put("crates/over/specs/Over.antt", f"-- Over it.\n{other}\n")
             self.assert_found()
         self.put("crates/over/specs/Over.antt", "-- Over it.\n")
-        self.put("crates/base/proofs/add/Proof.antt", "-- `add`.\nuse Rattle·base·proofs.proofs.Laws.{spare}\nf = spare\n")
+        self.put("crates/base/proofs/add/Proof.antt", "-- `add`.\nuse Rattle.base.proofs.Laws.{spare}\nf = spare\n")
         self.assert_found()
         self.put("crates/base/proofs/add/Proof.antt", "-- `add`.\n")
-        self.put("crates/over/src/lib.rt", "// Over it.\nghost use Rattle·base.proofs.Laws.{spare};\n// ..\nensures { ⌜ spare ⌝ }\n")
+        self.put("crates/over/src/lib.rt", "// Over it.\nghost use Rattle.base.proofs.Laws.{spare};\n// ..\nensures { spare }\n")
         self.assert_found()
+        (self.root / "crates/over/src/lib.rt").unlink()
+        for crate, given in [("base", "crate::proofs::Laws::spare"), ("over", "base::proofs::Laws::spare"), ("over", "x::specs::Sums::y, base::proofs::Laws::spare")]:
+            self.put(f"crates/{crate}/src/more.rt", f"// More.\n#[tactic(auto, using({given}), unfolding(crate::specs::Sums::twice))]\nfn f() {{}}\n")
+            self.assert_found()
+            (self.root / f"crates/{crate}/src/more.rt").unlink()
 
     def test_a_law_of_the_same_name_is_another(self):
         self.put("crates/base/proofs/Laws.antt", self.LAWS + "\npub spare : ℕ\nspare = 1\n")
         unused = "crates/base/proofs/Laws.antt:14: nothing uses `spare`, and docs/PROMISES.md does not name it"
-        for other in ["use Rattle·far.proofs.Laws.{spare}\nf = spare", "spare : ℕ\nspare = 1", "use Rattle·base.proofs.Tools as t\nf = t.spare"]:
+        for other in ["use Rattle.far.proofs.Laws.{spare}\nf = spare", "spare : ℕ\nspare = 1", "use Rattle.base.proofs.Tools as t\nf = t.spare"]:
             self.put("crates/over/specs/Over.antt", f"-- Over it.\n{other}\n")
             self.assert_found(unused)
+        for given in ["crate::proofs::Laws::spare", "base::proofs::Tools::spare", "base::proofs::Laws::spared", "base::other::spare"]:
+            self.put("crates/over/src/lib.rt", f"// Over it.\n#![tactic(auto, using({given}))]\n")
+            self.assert_found(unused)
         # One that is brought in and not used has no user in that.
-        self.put("crates/over/specs/Over.antt", "-- Over it.\nuse Rattle·base.proofs.Laws.{spare}\n")
+        self.put("crates/over/specs/Over.antt", "-- Over it.\nuse Rattle.base.proofs.Laws.{spare}\n")
         self.assert_found(unused, "crates/over/specs/Over.antt:2: `spare` is brought in and not used")
 
     def test_laws_that_are_promised(self):
@@ -2068,8 +2071,7 @@ class InstructionsOfBuilds(unittest.TestCase):
         directory = tempfile.TemporaryDirectory()
         self.addCleanup(directory.cleanup)
         self.object = pathlib.Path(directory.name) / "kernel.o"
-        self.kit = pathlib.Path(os.environ.get("RATTLE_HOME") or pathlib.Path(shutil.which("rt")).resolve().parent.parent)
-        self.tools = self.kit / "on" / platform.machine() / "toolchain" / "bin"
+        self.tools = pathlib.Path(shutil.which("rt")).resolve().parent.parent / "toolchain" / "bin"
 
     def build(self, put, *target):
         words = [self.tools / "clang", *(target or ["--target=x86_64-unknown-linux-gnu"]), "--no-default-config", "-fintegrated-cc1"]
@@ -2246,6 +2248,7 @@ class Gate(unittest.TestCase):
     """.ci/run in a repository of its own, with scripts in place of rt and of what it runs."""
 
     TALLY = "216 passed, 0 failed"
+    OK = "rt: ok; handles allowed: none; must-fail edits: 2 refused; every proof and must-fail edit was done in this run"
 
     def setUp(self):
         directory = tempfile.TemporaryDirectory()
@@ -2258,6 +2261,9 @@ class Gate(unittest.TestCase):
         self.write_test("pass")
         self.write_runs("pass")
         self.write_check("pass")
+        for edit in ("base/must-fail/minus.edit", "base/must-fail/README.md", "over/must-fail/plus.edit"):
+            (self.root / "crates" / edit).parent.mkdir(parents=True, exist_ok=True)
+            (self.root / "crates" / edit).write_text("")
         (self.root / ".ci").mkdir()
         shutil.copy(ROOT / ".ci" / "run", self.root / ".ci" / "run")
 
@@ -2267,9 +2273,9 @@ class Gate(unittest.TestCase):
         path.write_text(f"#!/bin/sh\n{words}\n")
         path.chmod(0o755)
 
-    def rt(self, fmt="exit 0", ci=f"echo rt: ok; echo {TALLY}"):
-        """The stand-in of rt, which removes target/ as the real one does."""
-        self.script("bin/rt", f"echo \"rt $*\" >>ran\ncase $1 in\nfmt) {fmt} ;;\nci) rm -rf target; mkdir target; {ci} ;;\nesac")
+    def rt(self, ci=f"echo '{OK}'; echo {TALLY}"):
+        """The stand-in of rt."""
+        self.script("bin/rt", f"echo \"rt $*\" >>ran\ncase $1 in\nci) {ci} ;;\nesac")
 
     def write_test(self, words):
         text = f"import unittest\n\nclass One(unittest.TestCase):\n    def test_one(self):\n        open('ran', 'a').write('tests\\n'); {words}\n"
@@ -2291,8 +2297,8 @@ class Gate(unittest.TestCase):
         ran = (self.root / "ran").read_text().splitlines() if (self.root / "ran").exists() else []
         return done.returncode, done.stdout.decode(), ran
 
-    ALL = ["rt fmt --check", "house", "tests", "rt ci", "runs", "bindings "]
-    ALL += ["instructions target/staticlib/libkernel.a", "instructions --put target/staticlib/libkernel.a"]
+    ALL = ["house", "tests", "rt ci", "runs", "bindings "]
+    ALL += ["instructions crates/kernel/out/libkernel.a", "instructions --put crates/kernel/out/libkernel.a"]
 
     def assert_fails(self, status, last, parts):
         found, said, ran = self.gate()
@@ -2301,7 +2307,7 @@ class Gate(unittest.TestCase):
     def test_all_pass(self):
         status, said, ran = self.gate()
         self.assertEqual((status, said.splitlines()[-1], ran), (0, self.TALLY, self.ALL), said)
-        self.assertEqual((self.root / "target" / "rt-ci.txt").read_text(), f"rt: ok\n{self.TALLY}\n")
+        self.assertEqual((self.root / "target" / "rt-ci.txt").read_text(), f"{self.OK}\n{self.TALLY}\n")
 
     def test_from_its_own_folder_and_with_a_search_path_for_cd(self):
         os.makedirs(self.root / "elsewhere" / ".ci")
@@ -2310,47 +2316,81 @@ class Gate(unittest.TestCase):
             self.assertEqual((status, said.splitlines()[-1]), (0, self.TALLY), said)
 
     def test_closed_input(self):
-        self.rt(ci=f"cat; echo {self.TALLY}")
+        self.rt(ci=f"cat; echo '{self.OK}'; echo {self.TALLY}")
         status, said, _ = self.gate(stdin=None, preexec_fn=lambda: os.close(0))
         self.assertEqual((status, said.splitlines()[-1]), (0, self.TALLY), said)
 
     def test_input_is_left_alone(self):
-        self.rt(ci=f"cat; echo {self.TALLY}")
+        self.rt(ci=f"cat; echo '{self.OK}'; echo {self.TALLY}")
         reader, writer = os.pipe()  # which never ends
         status, said, _ = self.gate(stdin=reader, timeout=60)
         os.close(reader)
         os.close(writer)
         self.assertEqual((status, said.splitlines()[-1]), (0, self.TALLY), said)
 
-    def test_the_layout_fails(self):
-        self.rt(fmt="echo not in the layout: a.rt; exit 1")
-        self.assert_fails(1, "FAILED: the layout of every file (status 1)", 1)
+    def test_nothing_is_there_before_rt_ci(self):
+        before = {path for path in self.root.rglob("*")}
+        self.rt(ci=f"find . | sort >found; echo '{self.OK}'; echo {self.TALLY}")
+        self.assertEqual(self.gate()[0], 0)
+        found = {self.root / name for name in (self.root / "found").read_text().splitlines()}
+        self.assertEqual(found - before - {self.root, self.root / "found", self.root / "ran"}, set())
+        self.assertEqual(before - found, set())
 
     def test_the_rules_fail(self):
         self.script("tools/house", "echo house >>ran; echo a.rt:1: something; exit 1")
-        self.assert_fails(1, "FAILED: the rules of the repository (status 1)", 2)
+        self.assert_fails(1, "FAILED: the rules of the repository (status 1)", 1)
 
     def test_the_tests_fail(self):
         self.write_test("self.fail()")
-        self.assert_fails(1, "FAILED: the tests of tools/ (status 1)", 3)
+        self.assert_fails(1, "FAILED: the tests of tools/ (status 1)", 2)
 
     def test_rt_ci_fails(self):
         for status in (1, 2, 3):
             self.rt(ci=f"echo rt: FAILED; echo 215 passed, 1 failed; exit {status}")
-            self.assert_fails(status, "215 passed, 1 failed", 4)
+            self.assert_fails(status, "215 passed, 1 failed", 3)
             (self.root / "ran").unlink()
-        self.assertIn("FAILED: everything proved from nothing", self.gate()[1])
+        self.assertIn("FAILED: everything proved, ", self.gate()[1])
+
+    PROVED = "everything proved, every must-fail edit refused, every program run"
 
     def test_rt_ci_breaks_off(self):
-        part = "everything proved from nothing, every must-fail edit refused, every program run"
-        for ci, status in [("echo rt: no toolchain >&2; exit 2", 2), (f"echo {self.TALLY}; exit 1", 1), ("kill -9 $$", 137), (f"echo {self.TALLY}; echo more", 1), ("true", 1)]:
+        ok = f"echo '{self.OK}'"
+        for ci, status in [
+            ("echo rt: no toolchain >&2; exit 2", 2),
+            (f"{ok}; echo {self.TALLY}; exit 1", 1),
+            ("kill -9 $$", 137),
+            (f"{ok}; echo {self.TALLY}; echo more", 1),
+            (f"{ok}; echo '{self.TALLY} (base and the crates below alone: not the gate)'", 1),
+            (f"{ok}; echo 'only {self.TALLY}'", 1),
+            (f"echo {self.TALLY}", 1),
+            (f"echo rt: okay; echo {self.TALLY}", 1),
+            ("true", 1),
+        ]:
             self.rt(ci=ci)
-            self.assert_fails(status, f"FAILED: {part} (status {status})", 4)
+            self.assert_fails(status, f"FAILED: {self.PROVED} (status {status})", 3)
             (self.root / "ran").unlink()
+
+    def test_must_fail_edits_that_show_nothing(self):
+        rest = "done in this run: 1 of the 4 proofs (of crates and of their tests) and 1 of the 2 must-fail edits"
+        for ok, more, wanted in [
+            (f"rt: ok; handles allowed: none; must-fail edits: 2 refused, 1 of them only by a limit; {rest}", "", 0),
+            (f"rt: ok; handles allowed: none; must-fail edits: 2 refused, 0 bad; {rest}", "", 0),
+            (f"rt: ok; handles allowed: none; must-fail edits: 2 refused, 1 bad; {rest}", "", 1),
+            (f"rt: ok; handles allowed: none; must-fail edits: 2 refused, 10 bad; {rest}", "", 1),
+            (f"rt: ok; handles allowed: none; must-fail edits: 1 refused, 1 of them only by a limit, 1 bad; {rest}", "", 1),
+            (f"rt: ok; handles allowed: none; must-fail edits: 1 refused; {rest}", "", 1),
+            (f"rt: ok; handles allowed: none; {rest}", "", 1),
+            (self.OK, "rt: base/minus: BAD EDIT: its old text stands there 2 times", 1),
+            (self.OK, "rt: base/minus: NOT TRIED: its check was killed", 1),
+        ]:
+            self.rt(ci=f"echo '{more}'; echo '{ok}'; echo {self.TALLY}")
+            with self.subTest(ok=ok, more=more):
+                status, said, _ = self.gate()
+                self.assertEqual((status, said.splitlines()[-1]), (wanted, f"FAILED: {self.PROVED} (status 1)" if wanted else self.TALLY), said)
 
     def test_the_runs_fail(self):
         self.write_runs("raise SystemExit(1)")
-        self.assert_fails(1, "FAILED: rowrun where reading or writing does not go well (status 1)", 5)
+        self.assert_fails(1, "FAILED: rowrun where reading or writing does not go well (status 1)", 4)
 
     def test_the_bindings_fail(self):
         self.script("bindings/run", "echo bindings >>ran; echo 4 parts passed, 1 failed; exit 1")
@@ -2358,7 +2398,7 @@ class Gate(unittest.TestCase):
         self.assertEqual((status, said.splitlines()[-1]), (1, "FAILED: the bindings, on the library that was proved (status 1)"))
 
     def test_the_root_fails(self):
-        for words, status, parts in [("sys.exit(1)", 1, 7), ("sys.exit(2)", 2, 7), ("sys.exit('--put' in sys.argv)", 1, 8)]:
+        for words, status, parts in [("sys.exit(1)", 1, 6), ("sys.exit(2)", 2, 6), ("sys.exit('--put' in sys.argv)", 1, 7)]:
             self.write_check(words)
             self.assert_fails(status, f"FAILED: the root without a multiply or a divide, in the library that was proved (status {status})", parts)
             (self.root / "ran").unlink()
@@ -2367,10 +2407,10 @@ class Gate(unittest.TestCase):
         (self.root / "bin" / "rt").unlink()
         if shutil.which("rt", path="/usr/bin:/bin"):
             self.skipTest("rt stands among the commands of the system")
-        self.assert_fails(127, "FAILED: the layout of every file (status 127)", 0)
+        self.assert_fails(127, f"FAILED: {self.PROVED} (status 127)", 2)
 
     def test_output_is_shown_as_it_comes(self):
-        self.rt(ci=f"echo one; until [ -f seen ]; do sleep 0.05; done; echo {self.TALLY}")
+        self.rt(ci=f"echo one; until [ -f seen ]; do sleep 0.05; done; echo '{self.OK}'; echo {self.TALLY}")
         environment = {"PATH": f"{self.root / 'bin'}:/usr/bin:/bin"}
         with subprocess.Popen([str(self.root / ".ci" / "run")], stdout=subprocess.PIPE, stderr=subprocess.STDOUT, env=environment) as running:
             said = ""
@@ -2381,7 +2421,7 @@ class Gate(unittest.TestCase):
         self.assertEqual((running.returncode, said.splitlines()[-1]), (0, self.TALLY))
 
     def test_closed_output(self):
-        self.rt(ci=f"sleep 0.3; echo {self.TALLY}; exit 0")
+        self.rt(ci=f"sleep 0.3; echo '{self.OK}'; echo {self.TALLY}; exit 0")
         with subprocess.Popen([str(self.root / ".ci" / "run")], stdout=subprocess.PIPE, stderr=subprocess.PIPE, env={"PATH": f"{self.root / 'bin'}:/usr/bin:/bin"}) as running:
             running.stdout.close()
             running.stderr.read()

@@ -2,7 +2,7 @@
  * Ravelsickle for C and C++: the highest y under half-planes a*x + b*y <= c, within a number of row readings that is
  * known beforehand.
  *
- * Link the static library that `rt staticlib kernel` writes (target/staticlib/libkernel.a, for x86-64), or one that
+ * Link the static library that `rt lib` writes in crates/kernel (crates/kernel/out/libkernel.a, for x86-64), or one that
  * `boards/run` builds for a board. It calls C's memset and memcpy and nothing else, on a board without a float unit for
  * doubles also the routines that stand for one; it allocates nothing and keeps nothing between calls, so that threads may
  * call it at once on rows, and links, of their own.

@@ -20,7 +20,7 @@ An entry that only reads (lp_1d, recover) takes a read-only buffer or a tuple as
 
 Records that come off a link a few bytes at a time, cut anywhere, are answered by a Link.
 
-The entries are called in a shared object linked from the static library that `rt staticlib kernel` writes; bindings/run
+The entries are called in a shared object linked from the static library that `rt lib` writes in crates/kernel; bindings/run
 links it. RAVELSICKLE_SHARED names another one.
 """
 

@@ -1,5 +1,5 @@
 //! Links the static library `libkernel.a`: the one that `RAVELSICKLE_LIB` names (the archive, or the folder it is in), or
-//! the one that `rt staticlib kernel` writes in this repository.
+//! the one that `rt lib` writes in this repository's crates/kernel.
 
 use std::env;
 use std::path::{Path, PathBuf};
@@ -10,7 +10,7 @@ const ARCHIVE: &str = "libkernel.a";
 fn archive() -> PathBuf {
     let Some(named) = env::var_os("RAVELSICKLE_LIB") else {
         return Path::new(env!("CARGO_MANIFEST_DIR"))
-            .join("../../target/staticlib")
+            .join("../../crates/kernel/out")
             .join(ARCHIVE);
     };
     let named = PathBuf::from(named);
@@ -38,7 +38,7 @@ fn main() {
     let archive = archive();
     if archive.file_name().is_none_or(|name| name != ARCHIVE) || !archive.is_file() {
         stop(&format!(
-            "there is no Ravelsickle library at {}: write it with `rt staticlib kernel`, or set RAVELSICKLE_LIB to {ARCHIVE} or the folder it is in",
+            "there is no Ravelsickle library at {}: write it with `rt lib` in crates/kernel, or set RAVELSICKLE_LIB to {ARCHIVE} or the folder it is in",
             archive.display()
         ));
     }

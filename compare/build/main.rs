@@ -110,11 +110,11 @@ fn write_copies(out: &Path, lp: String) -> Result<String, String> {
 
 /// The static library's path, which must be there.
 fn library() -> PathBuf {
-    let library = path_from("COMPARE_LIBRARY", "../target/staticlib/libkernel.a");
+    let library = path_from("COMPARE_LIBRARY", "../crates/kernel/out/libkernel.a");
     println!("cargo:rerun-if-changed={}", library.display());
     if !library.is_file() {
         stop(&format!(
-            "there is no static library at {} (`rt staticlib kernel` makes it)",
+            "there is no static library at {} (`rt lib` in crates/kernel makes it)",
             library.display()
         ));
     }

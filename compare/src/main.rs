@@ -45,7 +45,7 @@ struct Options {
 
 /// Where the repository's own vectors and program lie, from its root.
 const VECTORS: &str = "crates/rowrun";
-const ROWRUN: &str = "target/bin/rowrun";
+const ROWRUN: &str = "crates/rowrun/out/rowrun";
 /// The variable that names another folder of vectors.
 const VECTORS_FROM: &str = "RAVELSICKLE_VECTORS";
 
