@@ -120,7 +120,8 @@ module _ (a b : List ℕ) (rows : List Float) where
       let six = alike_less rows_at a b alike header_bytes (omega arith) in
       both_refused six (λ z. let no : ⊥ = omega arith in no) (rw ((header six).0, (header six).1, (same_fields rows_at a b alike (omega arith)).2))
 
-  pub same_outcome : (keeps_rows b ≡ true → take (float_count b) rows ≡ row_floats b) → take (kept b) a ≡ take (kept b) b → (answered a rows).outcome ≡ outcome b
+  pub same_outcome : (keeps_rows b ≡ true → take (float_count b) rows ≡ row_floats b) → take (kept b) a ≡ take (kept b) b
+      → (answered a rows).outcome ≡ outcome b
   unfolding keeps_rows
   same_outcome same =
       by_kept b (λ k. take k a ≡ take k b → (answered a rows).outcome ≡ outcome b)

@@ -157,7 +157,8 @@ module _ (link : Link) (head : List ℕ) (rows : List Float) (bytes : List ℕ) 
             let fits : length bytes ≤ kept head - p =
             elim (dec_le (length bytes) 0) [ yes none ↦ omega arith | no some ↦ let h = there (omega arith) in omega (arith, keeps_all head (omega arith)) ] in
             rw (lt-ltb p (kept head) (omega arith))
-            (held-placed (kept head) header_bytes (λ l i b behind keeps. omega (arith, (told_set l i b behind).1)) link head rows bytes there (omega arith) fits)
+            (held-placed (kept head) header_bytes
+            (λ l i b behind keeps. omega (arith, (told_set l i b behind).1)) link head rows bytes there (omega arith) fits)
       ]
 
   pub rows-placed : (0 < length bytes → rows_at ≤ p)

@@ -1,6 +1,5 @@
 -- `gather::push` meets its contract.
 use native.Mathlib.Omega.{arith}
-use borrow.Author.Rules.{rules}
 use borrow.Author.Tests.{eq-eqb, ne_eqb}
 use Rattle.float.specs.Operators.{when◌then◌else◌}
 use Rattle.gather.specs.Gather.{pushed}

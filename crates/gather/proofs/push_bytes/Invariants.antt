@@ -1,15 +1,8 @@
--- `gather::push_bytes` meets its contract.
-use mathlib.Core.Path.{◌≡◌, refl, sym, ◌∙◌}
-use mathlib.Core.Logic.{⊎_elim}
-use Prim.Native.Nat.{◌+◌, ◌-◌, ◌≤◌, ◌<◌}
-use native.Mathlib.Nat.{add-zero}
-use native.Mathlib.Omega.{arith}
-use lib.ListN.{length, drop, get_or}
-use borrow.Author.Rules.{rules}
-use Rattle.record.specs.Sizes.{most_floats}
-use Rattle.gather.specs.Gather.{rows_in, word_all, rows_all}
-use Rattle.gather.proofs.Pushes.{length-rows_in, rows_in_eighth, rows_in_other}
-use Rattle.gather.proofs.Strides.{byte_more, none_more}
+-- What `gather::push_bytes`' loop keeps: the word and the rows so far, with the bytes that are left, come to what all bytes come to.
+use mathlib.Core.Path.{◌≡◌}
+use Prim.Native.Nat.{◌+◌, ◌-◌, ◌≤◌}
+use lib.ListN.{length, drop}
+use Rattle.gather.specs.Gather.{word_all, rows_all}
 use Rattle.gather.proofs.push_bytes.Given as goal
 
 abbrev pub invariant-loop-i : goal.invariant-loop-i

@@ -1,10 +1,7 @@
--- `gather::read_floats` meets its contract. The loop's invariant: the first i floats are stored.
-use mathlib.Core.Path.{◌≡◌, refl, sym, ◌∙◌}
-use Prim.Native.Nat.{◌-◌, ◌≤◌}
+-- `gather::read_floats` meets its contract.
+use mathlib.Core.Path.{refl, ◌∙◌}
 use native.Mathlib.Omega.{arith}
-use borrow.Author.Rules.{rules}
-use lib.ListN.{length, take, length-set}
-use lib.Seq.{take_all}
+use lib.ListN.{length-set}
 use Rattle.record.specs.Bytes.{float, floats as floatsOf}
 use Rattle.record.proofs.Bytes.{floats_stored}
 use Rattle.gather.proofs.read_floats.Goals as goal

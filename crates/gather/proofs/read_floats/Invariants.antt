@@ -1,12 +1,8 @@
--- `gather::read_floats` meets its contract. The loop's invariant: the first i floats are stored.
-use mathlib.Core.Path.{◌≡◌, refl, sym, ◌∙◌}
+-- What `gather::read_floats`' loop keeps: the first i floats are stored.
+use mathlib.Core.Path.{◌≡◌}
 use Prim.Native.Nat.{◌-◌, ◌≤◌}
-use native.Mathlib.Omega.{arith}
-use borrow.Author.Rules.{rules}
-use lib.ListN.{length, take, length-set}
-use lib.Seq.{take_all}
-use Rattle.record.specs.Bytes.{float, floats as floatsOf}
-use Rattle.record.proofs.Bytes.{floats_stored}
+use lib.ListN.{length, take}
+use Rattle.record.specs.Bytes.{floats as floatsOf}
 use Rattle.gather.proofs.read_floats.Given as goal
 
 abbrev pub invariant-loop-i : goal.invariant-loop-i

@@ -1,13 +1,13 @@
 -- `link::fill` meets its contract, and ends: each turn takes a byte.
 use mathlib.Core.Path.{refl, sym, ◌∙◌}
-use Prim.Native.Nat.{◌+◌, ◌-◌, ◌≤◌}
+use Prim.Native.Nat.{◌+◌, ◌≤◌}
 use native.Mathlib.Omega.{arith}
 use lib.ListN.{length}
 use Rattle.text.specs.Sizes.{longest_line}
 use Rattle.text.specs.Text.{written}
 use Rattle.reader.specs.Reader.{state, after_all, texts, fed, said}
 use Rattle.portions.proofs.Demands.{refused_by_12, takes_nothing_in}
-use Rattle.link.proofs.Filling.{Filling, filling_start, not_past, nearer, filling_on, none_left, full, filled}
+use Rattle.link.proofs.Filling.{filling_start, not_past, nearer, filling_on, none_left, full, filled}
 use Rattle.link.proofs.fill.Goals as goal
 
 -- what is ensured, clause by clause

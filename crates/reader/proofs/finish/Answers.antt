@@ -1,13 +1,12 @@
 -- `reader::finish` meets its contract.
 use Prim.Native.Nat.{◌+◌, ◌≤◌}
 use native.Mathlib.Omega.{arith}
-use borrow.Author.Rules.{rules}
 use borrow.Author.Tests.{eq-eqb, ne_eqb}
 use lib.ListN.{length}
 use Rattle.float.specs.Operators.{when◌then◌else◌}
 use Rattle.solve.specs.declared.Outcome.TheVariants.{Refused}
 use Rattle.text.specs.Lines.{outcome_line, end_line}
-use Rattle.text.proofs.Written.{then_put}
+use Rattle.text.proofs.Written.{then_ensured}
 use Rattle.reader.specs.Reader.{last_text}
 use Rattle.reader.proofs.Texts.{line_length, end_length}
 use Rattle.reader.proofs.finish.Goals as goal
@@ -17,8 +16,7 @@ put_end-requires-2 c = omega (arith, line_length (c.args.link.lines + 1) (Refuse
 
 pub returns-then-link-eq0 : goal.returns-then-link-eq0
 unfolding last_text when◌then◌else◌
-returns-then-link-eq0 c =
-    rw (eq-eqb _ _ c.if-link-eq0.true) record { end = c.put_end.ensures.end; out = c.put_end.ensures.out }
+returns-then-link-eq0 c = rw (eq-eqb _ _ c.if-link-eq0.true) c.put_end.ensures
 
 pub returns : goal.returns
 unfolding last_text when◌then◌else◌
@@ -28,7 +26,4 @@ returns c =
     let refused = outcome_line number (Refused 8) in
     let fits : a.at + length refused + length (end_line number) ≤ length a.out.now =
     omega (arith, line_length number (Refused 8), end_length number) in
-    let p = c.put_line-end.ensures in
-    let e = c.put_end-2.ensures in
-    let put = then_put a.out.now a.at refused (end_line number) fits (p.end, p.out) (e.end, e.out) in
-    rw (ne_eqb _ _ c.if-link-eq0.false) record { end = put.0; out = put.1 }
+    rw (ne_eqb _ _ c.if-link-eq0.false) (then_ensured a.out.now a.at refused (end_line number) fits c.put_line-end.ensures c.put_end-2.ensures)

@@ -1,7 +1,6 @@
 -- `reader::is_listening` meets its contract.
 use Prim.Native.Nat.{◌+◌}
 use native.Mathlib.Omega.{arith}
-use borrow.Author.Rules.{rules}
 use borrow.Author.Tests.{lt-ltb, le-ltb, eq-eqb, ne_eqb}
 use Rattle.reader.specs.Reader.{most_bytes, listening}
 use Rattle.reader.proofs.is_listening.Goals as goal

@@ -1,5 +1,4 @@
 -- `reader::is_unfinished` meets its contract.
-use borrow.Author.Rules.{rules}
 use borrow.Author.Tests.{lt-ltb, le-ltb}
 use Rattle.record.specs.Sizes.{header_bytes}
 use Rattle.reader.specs.Reader.{unfinished}

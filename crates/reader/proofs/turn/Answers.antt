@@ -1,5 +1,4 @@
 -- `reader::turn` meets its contract.
--- ---- what is ensured, by the state u that the bytes which count leave up to the record's end
 use mathlib.Core.Path.{◌≡◌, refl, sym, ap, ◌∙◌}
 use mathlib.Core.Bool.{true, false}
 use mathlib.Core.List.{List}
@@ -30,6 +29,8 @@ counting n left bytes counted =
       | yes all ↦ take_all n bytes (omega arith) ∙ sym (take_all left bytes all)
       | no some ↦ let same : n ≡ left = omega arith in rw same
     ]
+
+-- ---- what is ensured, by the state u that the bytes which count leave up to the record's end
 
 module _ (link : Link) (head : List ℕ) (rows : List Float) (bytes out : List ℕ) (at : ℕ) where
   abbrev s : State
