@@ -35,7 +35,7 @@ fn push_bytes(word: u64, rows: &mut [f64], before: usize, bytes: &[u8]) -> u64
     let mut i = 0;
     while i < bytes.len() {
         now = push(before + i, now, bytes[i]);
-        if (before + i) % 8 + 1 == 7 {
+        if (before + i) % 8 == 7 {
             rows[(before + i) / 8] = float::float_of(now);
         }
         i += 1;
