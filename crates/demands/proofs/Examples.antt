@@ -119,7 +119,8 @@ examples =
     solving (from lp_bound) 1000 rows₄ (Point zero (f64 0x4000_0000_0000_0000)) (Holds 1) NoRow 23 ∷  -- S4
     solving (from lp_bound) 1000 rows₅ (Point zero (f64 0x44ea_7843_79d9_9db4)) NoRow NoRow 28 ∷  -- S5
     solving (from (num 999999)) 1000 rows₅ (Point zero (f64 0x412e_847e_0000_0000)) NoRow NoRow 8 ∷
-    normalizing (row_of (num 3) (num 4) (num 10) ∷ []) (row_of (f64 0x3fe3_3333_3333_3334) (f64 0x3fe9_9999_9999_999a) (f64 0x4000_0000_0000_0000) ∷ []) ∷  -- N1
+    normalizing (row_of (num 3) (num 4) (num 10) ∷ []) (row_of (f64 0x3fe3_3333_3333_3334) (f64 0x3fe9_9999_9999_999a) (f64 0x4000_0000_0000_0000)
+        ∷ []) ∷  -- N1
     normalizing (row_of (num 0) (num 0) (-num 5) ∷ row_of (num (10 ^ 200)) (num 0) (num 1) ∷ []) (zeros ∷ zeros ∷ []) ∷  -- N2
     crossing_of (row_of (num 1) (num 2) (num 5)) (row_of (num 3) (num 4) (num 6)) (at 0xc010_0000_0000_0000 0x4012_0000_0000_0000) ∷  -- D1
     crossing_of (row_of (num 1) (num 2) (num 5)) (row_of (num 2) (num 4) (num 6)) (crossing_is.Refused 5) ∷  -- D2
@@ -139,13 +140,16 @@ a ⊹ b = (a, b)
 
 pub examples_hold : All examples
 unfolding
-    when◌then◌else◌ zero one abs finite negative ◌⋖◌ min max clamp root root_units whole_root fused product pure read ◌>>=◌ ◌>>◌ eps_zero eps_normalize eps_rounding
+    when◌then◌else◌ zero one abs finite negative ◌⋖◌ min max clamp root root_units whole_root fused product pure read ◌>>=◌ ◌>>◌ eps_zero
+        eps_normalize eps_rounding
     ccw_errbound_a lp_bound lp_box_growth half repair_tol_scale zeros rows_of flat_of row_at refusal residual weight no_boundary normalized_by normalized_row
-    normalized determinant singular crossing no_rows set_first set_second whole_line void coefficient_is_zero narrow meeting lp1d_core on_y on_x on_line pairs_of
+    normalized determinant singular crossing no_rows set_first set_second whole_line void coefficient_is_zero narrow meeting lp1d_core on_y on_x
+    on_line pairs_of
     lp1d onward ◌>>?◌ steep_end steep_step uncrossed chosen flat_end flat_step step every meets not_above works first_that_works bounded cut interval
     everywhere middle attempts inside project on_boundary alone factors together one_supports two_support supported_by supports ordered_by ordered
     plausible tested qualified candidate better judge turn rebuild seed_of floor_of unmoved rebuilt on_boundaries recover violated frame second_try repair
-    after_trial pivot forward excess worst none deferred prepared widened begun passes saturated on_box lone many once solves all_solves last_of count rows_within
+    after_trial pivot forward excess worst none deferred prepared widened begun passes saturated on_box lone many once solves all_solves last_of count
+    rows_within
     answer active_rows answered finished allowed refusal_of taken solve round neg add sub mul div lt le eq is_nan of_bits
 examples_hold =
     refl ⊹ refl ⊹ refl ⊹ refl ⊹ refl ⊹ refl ⊹ refl ⊹ refl ⊹ refl ⊹ refl ⊹

@@ -13,7 +13,8 @@ use Rattle.solve.specs.Solve.{solve}
 use Rattle.lent.specs.Lent.{solve_rows}
 
 -- where the first i rows are those of `from`, so are the first i + 1 once row i is set
-pub next : (from to : List Row) (i : ℕ) → i < length from → i < length to → take i to ≡ take i from → take (i + 1) (set to i (row_at from i)) ≡ take (i + 1) from
+pub next : (from to : List Row) (i : ℕ) → i < length from → i < length to → take i to ≡ take i from → take (i + 1) (set to i (row_at from i))
+    ≡ take (i + 1) from
 unfolding row_at
 next from to i h k e =
     take_more_set to i (get_or from i zeros) k

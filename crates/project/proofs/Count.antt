@@ -44,7 +44,8 @@ module _ (ε y : Float) where
   first_that_works_takes : (rows : List Row) (xs : List Float) → first_that_works ε y rows xs at_most length xs * length rows
   unfolding first_that_works
   first_that_works_takes rows [] = pure_takes _
-  first_that_works_takes rows (x ∷ xs) = wider (bind_takes (works_takes rows x) (λ ok. if_takes ok (pure_takes _) (first_that_works_takes rows xs))) (omega arith)
+  first_that_works_takes rows (x ∷ xs) = wider (bind_takes (works_takes rows x) (λ ok. if_takes ok (pure_takes _) (first_that_works_takes rows xs)))
+      (omega arith)
 
   interval_takes : (rows : List Row) (v : Interval) → interval ε y rows v at_most length rows
   unfolding interval

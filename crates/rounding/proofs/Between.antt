@@ -1,6 +1,8 @@
 -- Where √n lies between two whole numbers of 2 ^ -1074, and what a fraction rounds to by its square: one up to n rounds to at most what
 -- √n * 2 ^ -1074 rounds to, and one from n on to at least that.
-use Rattle.std.proofs.Common.{◌≡◌, ℕ, suc, ◌+◌, ◌*◌, ◌^◌, ◌<◌, ◌≤◌, Bool, true, false, cond, T, eqb, sym, refl, ap, ◌∙◌, inl, inr, le_trans, le_of_eq, le_refl, add-zero, mul-le-mul_right, mul_assoc, mul_comm, mul-le-mul_left, mul-lt-mul_of_pos_right, mul-pos, mul-one, mul_left_comm, arith, pow_pos, eq-eqb, ne_eqb, eqb-true}
+use Rattle.std.proofs.Common.{◌≡◌, ℕ, suc, ◌+◌, ◌*◌, ◌^◌, ◌<◌, ◌≤◌, Bool, true, false, cond, T, eqb, sym, refl, ap, ◌∙◌, inl, inr, le_trans, le_of_eq}
+use Rattle.std.proofs.Common.{le_refl, add-zero, mul-le-mul_right, mul_assoc, mul_comm, mul-le-mul_left, mul-lt-mul_of_pos_right, mul-pos, mul-one}
+use Rattle.std.proofs.Common.{mul_left_comm, arith, pow_pos, eq-eqb, ne_eqb, eqb-true}
 use lib.Arith.{lt_of_le-ne}
 use lib.Ieee.{Float, binary64, round, le}
 use lib.Ieee.Order.{round_mono}

@@ -1,5 +1,6 @@
 -- What a positive float's pattern is read as, with a sign set beside it: the digits times a power of two.
-use Rattle.std.proofs.Common.{◌≡◌, ℕ, zero, suc, ◌+◌, ◌-◌, ◌*◌, ◌/◌, ◌%◌, ◌^◌, ◌<◌, ◌≤◌, Bool, true, false, refl, lt_of_lt_of_le, lt_of_le_of_lt, add-zero, mod-lt, mod-eq_of_lt, mul-one, arith, lit≤, pow_pos, ne_eqb, le-leb}
+use Rattle.std.proofs.Common.{◌≡◌, ℕ, zero, suc, ◌+◌, ◌-◌, ◌*◌, ◌/◌, ◌%◌, ◌^◌, ◌<◌, ◌≤◌, Bool, true, false, refl, lt_of_lt_of_le, lt_of_le_of_lt, add-zero}
+use Rattle.std.proofs.Common.{mod-lt, mod-eq_of_lt, mul-one, arith, lit≤, pow_pos, ne_eqb, le-leb}
 use native.Mathlib.Nat.{mul-mod_left}
 use lib.Bits.{bit_and, bit_or, and_mask, or_shifted_r}
 use lib.Count.{count_leading_zeros, leading_top}

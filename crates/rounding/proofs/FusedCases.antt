@@ -1,5 +1,6 @@
 -- The cases that the fused multiply-add settles by tests on the bits, and what those tests say of a float.
-use Rattle.std.proofs.Common.{◌≡◌, ℕ, zero, suc, ◌+◌, ◌-◌, ◌*◌, ◌/◌, ◌%◌, ◌^◌, ◌<◌, Bool, true, false, cond, not, T, eqb, ltb, ℤ, pos, sym, refl, ap, ◌∙◌, pos_of_ne-zero, mul-pos, mul-zero, zero-mul, mul-one, arith, lit<, ltb-false, eqb-true}
+use Rattle.std.proofs.Common.{◌≡◌, ℕ, zero, suc, ◌+◌, ◌-◌, ◌*◌, ◌/◌, ◌%◌, ◌^◌, ◌<◌, Bool, true, false, cond, not, T, eqb, ltb, ℤ, pos, sym, refl, ap, ◌∙◌}
+use Rattle.std.proofs.Common.{pos_of_ne-zero, mul-pos, mul-zero, zero-mul, mul-one, arith, lit<, ltb-false, eqb-true}
 use mathlib.Core.Bool.{beq}
 use native.Mathlib.Nat.{mul-mul-mul_comm}
 use lib.Bits.{bit_and, and_mask}

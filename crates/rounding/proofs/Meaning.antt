@@ -1,6 +1,7 @@
 -- What `root` means to a reader who trusts `round` of a fraction: `root x` is what √x rounds to (`root_is_nearest`), and no other float is
 -- (`root-alone_is_nearest`). The cases without rounding stand in `Special`.
-use Rattle.std.proofs.Common.{◌≡◌, ℕ, ◌+◌, ◌*◌, ◌^◌, ◌<◌, ◌≤◌, true, false, T, sym, refl, ap, ◌∙◌, le_trans, le_of_eq, lt_of_lt_of_le, lt_of_le_of_lt, mul-le-mul_right, mul-pos, le_of_mul-le-mul_right, arith, lit≤, lt→ltb, pow_pos, shl_lt, ltb-true}
+use Rattle.std.proofs.Common.{◌≡◌, ℕ, ◌+◌, ◌*◌, ◌^◌, ◌<◌, ◌≤◌, true, false, T, sym, refl, ap, ◌∙◌, le_trans, le_of_eq, lt_of_lt_of_le, lt_of_le_of_lt}
+use Rattle.std.proofs.Common.{mul-le-mul_right, mul-pos, le_of_mul-le-mul_right, arith, lit≤, lt→ltb, pow_pos, shl_lt, ltb-true}
 use mathlib.Core.Bool.{false≢true}
 use lib.Ieee.{Float, nan, inf, fin, binary64, up, down, round, fits, lt, le, of_bits}
 use lib.Ieee.Fits.{round-fits}

@@ -1,5 +1,6 @@
 -- The bit pattern of q * 2 ^ k units of 2 ^ -1074, infinities included, and what a pattern is read as.
-use Rattle.std.proofs.Common.{◌≡◌, ℕ, zero, suc, ◌+◌, ◌-◌, ◌*◌, ◌/◌, ◌%◌, ◌^◌, ◌<◌, ◌≤◌, Bool, true, false, cond, not, T, ltb, ◌⊎◌, refl, ◌∙◌, inl, inr, le_refl, lt_of_le_of_lt, eq-or-lt_of_le, mul-div_cancel, arith, lit<, lit≤, pow_pos, shl_lt, le-ltb, lt-ltb}
+use Rattle.std.proofs.Common.{◌≡◌, ℕ, zero, suc, ◌+◌, ◌-◌, ◌*◌, ◌/◌, ◌%◌, ◌^◌, ◌<◌, ◌≤◌, Bool, true, false, cond, not, T, ltb, ◌⊎◌, refl, ◌∙◌, inl, inr}
+use Rattle.std.proofs.Common.{le_refl, lt_of_le_of_lt, eq-or-lt_of_le, mul-div_cancel, arith, lit<, lit≤, pow_pos, shl_lt, le-ltb, lt-ltb}
 use lib.Ieee.{inf, binary64, size, odd, units, is_nan, of_bits, to_bits, nan_bits}
 use lib.Ieee.Digits.{size-le}
 use lib.Ieee.Fits.{odd-fits}

@@ -1,5 +1,6 @@
 -- Numbers times powers of two: equal where the exponents add up alike, and within bounds by the sum of the exponents.
-use Rattle.std.proofs.Common.{◌≡◌, ℕ, ◌+◌, ◌*◌, ◌^◌, ◌<◌, ◌≤◌, sym, refl, ◌∙◌, le_trans, le_of_eq, lt_of_lt_of_le, mul-le-mul_right, mul_assoc, lt_of_not-le, not-le_of_lt, pow_mono, pow-add, shl_lt}
+use Rattle.std.proofs.Common.{◌≡◌, ℕ, ◌+◌, ◌*◌, ◌^◌, ◌<◌, ◌≤◌, sym, refl, ◌∙◌, le_trans, le_of_eq, lt_of_lt_of_le, mul-le-mul_right, mul_assoc, lt_of_not-le}
+use Rattle.std.proofs.Common.{not-le_of_lt, pow_mono, pow-add, shl_lt}
 
 pub one_shift : (x i j k : ℕ) → i + j ≡ k → x * 2 ^ i * 2 ^ j ≡ x * 2 ^ k
 one_shift x i j k e = rw (← e, pow-add 2 i j, mul_assoc x (2 ^ i) (2 ^ j))

@@ -1,5 +1,6 @@
 -- The cases that the root settles by tests on the float, and what those tests say of its bits.
-use Rattle.std.proofs.Common.{◌≡◌, ℕ, zero, suc, ◌+◌, ◌*◌, ◌%◌, ◌^◌, ◌<◌, ◌≤◌, Bool, true, false, not, T, eqb, ltb, ℤ, sym, refl, ap, ◌∙◌, true≢false, mod-eq_of_lt, le_antisymm, pos_of_ne-zero, zero-mul, arith, lit<, eqb→eq, ltb-false, ne_eqb}
+use Rattle.std.proofs.Common.{◌≡◌, ℕ, zero, suc, ◌+◌, ◌*◌, ◌%◌, ◌^◌, ◌<◌, ◌≤◌, Bool, true, false, not, T, eqb, ltb, ℤ, sym, refl, ap, ◌∙◌, true≢false}
+use Rattle.std.proofs.Common.{mod-eq_of_lt, le_antisymm, pos_of_ne-zero, zero-mul, arith, lit<, eqb→eq, ltb-false, ne_eqb}
 use mathlib.Core.Bool.{false≢true}
 use native.Mathlib.Nat.{eq_of_mul-eq-mul_right}
 use lib.Ieee.{Float, nan, inf, fin, binary64, up, down, fits, is_nan, eq, lt, ne, of_bits, to_bits}

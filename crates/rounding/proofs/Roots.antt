@@ -1,5 +1,8 @@
 -- The whole part of a square root, and the root of a float by it.
-use Rattle.std.proofs.Common.{◌≡◌, ℕ, zero, suc, ◌+◌, ◌-◌, ◌*◌, ◌/◌, ◌%◌, ◌^◌, ◌<◌, ◌≤◌, Bool, true, false, cond, eqb, leb, ◌⊎◌, sym, refl, ap, ◌∙◌, inl, inr, true≢false, zero-le, le_refl, lt_of_lt_of_le, add-zero, mul-le-mul_right, mod-eq_of_lt, mul_assoc, eq-zero-or-pos, mul-le-mul, mul-pos, lt_of_not-le, mul_right_comm, not-le_of_lt, mul-div_cancel, arith, lit≤, ltb→lt, pow_pos, pow-add, ne_eqb, eqb-true, leb-false, leb-true}
+use Rattle.std.proofs.Common.{◌≡◌, ℕ, zero, suc, ◌+◌, ◌-◌, ◌*◌, ◌/◌, ◌%◌, ◌^◌, ◌<◌, ◌≤◌, Bool, true, false, cond, eqb, leb, ◌⊎◌, sym, refl, ap, ◌∙◌, inl, inr}
+use Rattle.std.proofs.Common.{true≢false, zero-le, le_refl, lt_of_lt_of_le, add-zero, mul-le-mul_right, mod-eq_of_lt, mul_assoc, eq-zero-or-pos, mul-le-mul}
+use Rattle.std.proofs.Common.{mul-pos, lt_of_not-le, mul_right_comm, not-le_of_lt, mul-div_cancel, arith, lit≤, ltb→lt, pow_pos, pow-add, ne_eqb, eqb-true}
+use Rattle.std.proofs.Common.{leb-false, leb-true}
 use lib.Bits.{bit_and, and_mask}
 use lib.Ieee.{Float, nan, inf, fin, binary64, up, down, units, round, of_bits}
 use lib.Ieee.Fits.{down_pos}

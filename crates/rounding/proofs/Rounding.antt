@@ -1,5 +1,6 @@
 -- sig * 2 ^ e / 2 ^ 2336, with the top bit of sig's 64 set, rounded: eleven digits are dropped, or more for a subnormal.
-use Rattle.std.proofs.Common.{◌≡◌, ℕ, ◌+◌, ◌-◌, ◌*◌, ◌/◌, ◌%◌, ◌^◌, ◌<◌, ◌≤◌, Bool, sym, refl, ap, ◌∙◌, inl, inr, le_trans, mul-pos, le-div_iff_mul-le, arith, lit<, pow_pos, pow-add, shr_lt}
+use Rattle.std.proofs.Common.{◌≡◌, ℕ, ◌+◌, ◌-◌, ◌*◌, ◌/◌, ◌%◌, ◌^◌, ◌<◌, ◌≤◌, Bool, sym, refl, ap, ◌∙◌, inl, inr, le_trans, mul-pos, le-div_iff_mul-le, arith}
+use Rattle.std.proofs.Common.{lit<, pow_pos, pow-add, shr_lt}
 use Prim.Native.Nat.{compare}
 use lib.Ieee.{binary64, units, round}
 use lib.Ieee.Fits.{nearest-le}

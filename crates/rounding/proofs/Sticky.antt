@@ -1,6 +1,9 @@
 -- Rounding sees no more of a fraction than a whole number near it: one that is equal to it, or one that is odd and less than 1 away (`Sticky`).
 -- `closest_sticky` says so of the nearest multiple of a number that four divides, and `round_sticky` of `round`.
-use Rattle.std.proofs.Common.{◌≡◌, ℕ, ◌+◌, ◌-◌, ◌*◌, ◌/◌, ◌%◌, ◌^◌, ◌<◌, ◌≤◌, Bool, not, T, ◌⊎◌, sym, refl, ap, ◌∙◌, ap₂, inl, inr, lt_of_lt_of_le, mul-le-mul_right, mod-lt, mul_assoc, div-lt_iff_lt-mul, eq-zero-or-pos, lt_of_mul-lt-mul_right, mul-lt-mul_of_pos_right, mul-pos, lt_of_not-le, div-add-mod', le-div_iff_mul-le, not-le_of_lt, le_of_mul-le-mul_right, arith, eqb→eq, leb→le, pow_pos, pow_mono, pow-add}
+use Rattle.std.proofs.Common.{◌≡◌, ℕ, ◌+◌, ◌-◌, ◌*◌, ◌/◌, ◌%◌, ◌^◌, ◌<◌, ◌≤◌, Bool, not, T, ◌⊎◌, sym, refl, ap, ◌∙◌, ap₂, inl, inr, lt_of_lt_of_le}
+use Rattle.std.proofs.Common.{mul-le-mul_right, mod-lt, mul_assoc, div-lt_iff_lt-mul, eq-zero-or-pos, lt_of_mul-lt-mul_right, mul-lt-mul_of_pos_right}
+use Rattle.std.proofs.Common.{mul-pos, lt_of_not-le, div-add-mod', le-div_iff_mul-le, not-le_of_lt, le_of_mul-le-mul_right, arith, eqb→eq, leb→le, pow_pos}
+use Rattle.std.proofs.Common.{pow_mono, pow-add}
 use Prim.Native.Nat.{compare, Ordering}
 use native.Mathlib.Nat.{le_dest, div-eq_of_lt-le}
 use lib.Dec.{is_le, compare_is_eq, nleb→lt, eqb_refl}

@@ -1,5 +1,7 @@
 -- Numbers of two words, hi * 2 ^ 64 + lo: their product, shift, and rounding.
-use Rattle.std.proofs.Common.{◌≡◌, ℕ, zero, suc, ◌+◌, ◌-◌, ◌*◌, ◌/◌, ◌%◌, ◌^◌, ◌<◌, ◌≤◌, Bool, true, false, cond, eqb, sym, refl, ap, inl, inr, le_trans, add-zero, le_of_lt, mul-le-mul_right, mod-lt, mod-eq_of_lt, mul_assoc, div-lt_iff_lt-mul, mul-le-mul, mul-lt-mul_of_pos_right, pow-suc, div-add-mod', mul-one, le-mul_of_pos_right, mul-div_cancel, arith, lit<, lit≤, pow_pos, eqb-true}
+use Rattle.std.proofs.Common.{◌≡◌, ℕ, zero, suc, ◌+◌, ◌-◌, ◌*◌, ◌/◌, ◌%◌, ◌^◌, ◌<◌, ◌≤◌, Bool, true, false, cond, eqb, sym, refl, ap, inl, inr, le_trans}
+use Rattle.std.proofs.Common.{add-zero, le_of_lt, mul-le-mul_right, mod-lt, mod-eq_of_lt, mul_assoc, div-lt_iff_lt-mul, mul-le-mul, mul-lt-mul_of_pos_right}
+use Rattle.std.proofs.Common.{pow-suc, div-add-mod', mul-one, le-mul_of_pos_right, mul-div_cancel, arith, lit<, lit≤, pow_pos, eqb-true}
 use native.Mathlib.Nat.{mul-mod_left}
 use lib.Arith.{mod-mul}
 use lib.Bits.{bit_and, bit_or, and_mask, or_shifted}

@@ -53,7 +53,8 @@ module _ (R : List Row) (F : Frame) (upto i : ℕ) (s : State) (left : ℕ) wher
   step-none e = reading_stops left 1 _ (omega arith)
 
   module _ (some : 0 < left) where
-    pub step_free : no_boundary (row_at R i) ≡ true → {b : Bool} → neg F.epsilon ≼ (row_at R i).c ≡ b → stepping ≡ paid (when b then Done s else Failed) (left - 1)
+    pub step_free : no_boundary (row_at R i) ≡ true → {b : Bool} → neg F.epsilon ≼ (row_at R i).c ≡ b → stepping
+        ≡ paid (when b then Done s else Failed) (left - 1)
     unfolding step when◌then◌else◌
     step_free e {b} d = reading_fits left 1 _ (omega arith) ∙ rw (e, d) (within-pure (left - 1) (when b then Done s else Failed))
 

@@ -7,9 +7,15 @@ use Rattle.float.proofs.clamp.Goals as goal
 pub returns-then-high-raised : goal.returns-then-high-raised
 unfolding clamp when◌then◌else◌
 returns-then-high-raised c =
-    elim c.if-x-low.branch [ then-x-low w ↦ simp (w.if-x-low.true, ← w.raised-is, c.if-high-raised.true) | else-x-low w ↦ simp (w.if-x-low.false, ← w.raised-is, c.if-high-raised.true) ]
+    elim c.if-x-low.branch [
+      then-x-low w ↦ simp (w.if-x-low.true, ← w.raised-is, c.if-high-raised.true)
+      | else-x-low w ↦ simp (w.if-x-low.false, ← w.raised-is, c.if-high-raised.true)
+    ]
 
 pub returns-else-high-raised : goal.returns-else-high-raised
 unfolding clamp when◌then◌else◌
 returns-else-high-raised c =
-    elim c.if-x-low.branch [ then-x-low w ↦ simp (w.if-x-low.true, ← w.raised-is, c.if-high-raised.false) | else-x-low w ↦ simp (w.if-x-low.false, ← w.raised-is, c.if-high-raised.false) ]
+    elim c.if-x-low.branch [
+      then-x-low w ↦ simp (w.if-x-low.true, ← w.raised-is, c.if-high-raised.false)
+      | else-x-low w ↦ simp (w.if-x-low.false, ← w.raised-is, c.if-high-raised.false)
+    ]

@@ -16,14 +16,23 @@ returns-then-coefficient_is_zero c = rw (← c.coefficient_is_zero.ensures, c.if
 pub returns-then-up-2 : goal.returns-then-up-2
 unfolding cut_off when◌then◌else◌ zero
 returns-then-up-2 c =
-    elim c.if-up.branch [ then-up w ↦ rw (← c.coefficient_is_zero.ensures, c.if-coefficient_is_zero.false, c.if-up-2.true, ← w.edge-is, c.if-t-edge.true) | else-up w ↦ cc ]
+    elim c.if-up.branch [
+      then-up w ↦ rw (← c.coefficient_is_zero.ensures, c.if-coefficient_is_zero.false, c.if-up-2.true, ← w.edge-is, c.if-t-edge.true)
+      | else-up w ↦ cc
+    ]
 
 pub returns-then-t-edge : goal.returns-then-t-edge
 unfolding cut_off when◌then◌else◌ zero
 returns-then-t-edge c =
-    elim c.if-up.branch [ then-up w ↦ cc | else-up w ↦ rw (← c.coefficient_is_zero.ensures, c.if-coefficient_is_zero.false, c.if-up-2.false, ← w.edge-is, c.if-t-edge.true) ]
+    elim c.if-up.branch [
+      then-up w ↦ cc
+      | else-up w ↦ rw (← c.coefficient_is_zero.ensures, c.if-coefficient_is_zero.false, c.if-up-2.false, ← w.edge-is, c.if-t-edge.true)
+    ]
 
 pub returns : goal.returns
 unfolding cut_off when◌then◌else◌ zero
 returns c =
-    elim c.if-up.branch [ then-up w ↦ rw (← c.coefficient_is_zero.ensures, c.if-coefficient_is_zero.false, w.if-up.true, ← w.edge-is, c.if-t-edge.false) | else-up w ↦ rw (← c.coefficient_is_zero.ensures, c.if-coefficient_is_zero.false, w.if-up.false, ← w.edge-is, c.if-t-edge.false) ]
+    elim c.if-up.branch [
+      then-up w ↦ rw (← c.coefficient_is_zero.ensures, c.if-coefficient_is_zero.false, w.if-up.true, ← w.edge-is, c.if-t-edge.false)
+      | else-up w ↦ rw (← c.coefficient_is_zero.ensures, c.if-coefficient_is_zero.false, w.if-up.false, ← w.edge-is, c.if-t-edge.false)
+    ]

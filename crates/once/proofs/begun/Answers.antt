@@ -12,4 +12,7 @@ returns-then-bound c = rw (← c.settled-level.ensures, c.if-level.true, c.if-bo
 pub returns : goal.returns
 unfolding begun when◌then◌else◌ lp_bound
 returns c =
-    rw (← c.settled-level.ensures) (elim c.else-level.branch [ else-level-via-then-level+else-bound w ↦ rw (w.if-level.true, w.if-bound.false) | else-level-via-else-level w ↦ rw w.if-level.false ])
+    rw (← c.settled-level.ensures) (elim c.else-level.branch [
+      else-level-via-then-level+else-bound w ↦ rw (w.if-level.true, w.if-bound.false)
+      | else-level-via-else-level w ↦ rw w.if-level.false
+    ])

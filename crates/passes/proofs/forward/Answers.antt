@@ -6,7 +6,8 @@ use Rattle.rows.specs.Constants.{repair_tol_scale}
 use Rattle.passes.specs.Passes.{violated}
 use Rattle.passes.proofs.Attempts.{attempt_stops, attempt_finds, attempt_fails, attempt_again}
 use Rattle.passes.proofs.Turns.{ends, stops, keeps, trial_stops, trial_fails, step_stops, step_fails, step_finds}
-use Rattle.passes.proofs.forward.Goals.{then-beyond_rounding+in-Failed+in-Done-attempt, then-beyond_rounding+in-Done+in-Done-incre_step_2d, else-beyond_rounding, else-rows-test}
+use Rattle.passes.proofs.forward.Goals.{then-beyond_rounding+in-Failed+in-Done-attempt, then-beyond_rounding+in-Done+in-Done-incre_step_2d}
+use Rattle.passes.proofs.forward.Goals.{else-beyond_rounding, else-rows-test}
 use Rattle.passes.proofs.forward.Goals.{then-rows-test+else-rest-eq0+then-beyond_rounding+in-Failed+in-Failed-attempt+then-last}
 use Rattle.passes.proofs.forward.Goals.{then-rows-test+else-rest-eq0+then-beyond_rounding+in-Done+in-Failed-incre_step_2d}
 use Rattle.passes.proofs.forward.Goals as goal

@@ -20,7 +20,8 @@ abbrev pub decreases-attempts : goal.decreases-attempts
 decreases-attempts l = cond l.last 0 1
 
 abbrev pub invariant-rows : goal.invariant-rows
-invariant-rows l = Turn l.scale l.f l.rows l.n l.i l.rest l.s (within l.left (forward l.scale (rows_of l.rows) l.f (drop l.skip (rows_of l.rows)) l.skip l.initial.s))
+invariant-rows l = Turn l.scale l.f l.rows l.n l.i l.rest l.s (within l.left (forward l.scale (rows_of l.rows) l.f (drop l.skip (rows_of l.rows))
+    l.skip l.initial.s))
 
 abbrev pub decreases-rows : goal.decreases-rows
 decreases-rows l = l.n - l.i

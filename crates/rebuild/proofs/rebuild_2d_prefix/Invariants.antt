@@ -9,7 +9,8 @@ use Rattle.rebuild.proofs.Search.{Searching}
 use Rattle.rebuild.proofs.rebuild_2d_prefix.Given as goal
 
 abbrev pub invariant-rows : goal.invariant-rows
-invariant-rows l = Searching l.rows l.f l.upto l.seed l.floor l.i l.rest l.best (within l.left (rebuild (rows_of l.rows) l.f l.upto l.seed l.floor (take l.upto (rows_of l.rows)) 0 Failed))
+invariant-rows l = Searching l.rows l.f l.upto l.seed l.floor l.i l.rest l.best (within l.left
+    (rebuild (rows_of l.rows) l.f l.upto l.seed l.floor (take l.upto (rows_of l.rows)) 0 Failed))
 
 abbrev pub decreases-rows : goal.decreases-rows
 decreases-rows l = l.upto - l.i
