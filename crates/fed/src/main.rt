@@ -5,10 +5,12 @@
 // Prints the lines of each section, and then how many portions there were, and of how many other bytes were taken.
 #![tactic(auto)]
 
-ghost use Rattle.std.specs.Prelude.{◌≡◌, ◌+◌, ◌≤◌, ◌<◌, ◌^◌, min, length};
+ghost use Rattle.std.specs.Prelude.{◌≡◌, ◌+◌, ◌≤◌, ◌<◌, ◌^◌, min, length, IfOk};
 
 use link::Fed;
 use reader::Link;
+use std::io;
+use std::io::{ErrorKind, Read};
 
 fn least(a: usize, b: usize) -> usize
     ensures { result ≡ min a b }
@@ -31,31 +33,29 @@ fn number_at(input: &[u8], at: usize) -> usize
 
 // Offers bytes, and prints the line of a record that ended.
 fn offer(
+    rt: &impl Print,
     link: Link,
     head: &mut [u8; record::ROWS_AT],
     rows: &mut [f64; record::FLOATS],
     bytes: &[u8],
-) -> Fed
-    ensures { result.taken ≤ length bytes.now }
+) -> io::Result<Fed>
+    ensures { IfOk result (λ fed. fed.taken ≤ length bytes.now) }
 {
     let mut line = [0u8; link::LINE];
     let fed = link::feed(link, head, rows, bytes, &mut line);
-    io::write_all(libc::STDOUT_FILENO, &line[..fed.printed]);
-    fed
+    rt.write_all(&line[..fed.printed])?;
+    Ok(fed)
 }
 
 // Tells the end, and prints the last lines.
-fn print_end(link: Link, head: &[u8; record::ROWS_AT]) {
+fn print_end(rt: &impl Print, link: Link, head: &[u8; record::ROWS_AT]) -> io::Result<()> {
     let mut line = [0u8; link::LINE];
     let last = link::end(link, head, &mut line);
-    io::write_all(libc::STDOUT_FILENO, &line[..last.printed]);
+    rt.write_all(&line[..last.printed])
 }
 
-fn print_counts(portions: u64, otherwise: u64) {
-    io::print_decimal(libc::STDOUT_FILENO, portions);
-    io::write_all(libc::STDOUT_FILENO, b" portions, ");
-    io::print_decimal(libc::STDOUT_FILENO, otherwise);
-    io::write_all(libc::STDOUT_FILENO, b" taken otherwise\n");
+fn print_counts(rt: &impl Print, portions: u64, otherwise: u64) -> io::Result<()> {
+    println!(rt; "{portions} portions, {otherwise} taken otherwise")
 }
 
 // So many portions, and one more where other bytes were taken of it than must be.
@@ -70,10 +70,10 @@ fn and_other(otherwise: usize, taken: usize, wanted: usize) -> usize
 }
 
 // One section, which begins at a place. Answers where it ends.
-fn run_section(input: &[u8], at: usize) -> usize
+fn run_section(rt: &impl Print, input: &[u8], at: usize) -> io::Result<usize>
     requires input_len_bound { length input.now ≤ 65536 }
     requires at_in_bounds { at < length input.now }
-    ensures { at < result }
+    ensures { IfOk result (λ end. at < end) }
 {
     let mut head = [0u8; record::ROWS_AT];
     let mut rows = [0.0; record::FLOATS];
@@ -88,22 +88,43 @@ fn run_section(input: &[u8], at: usize) -> usize
     while k < portions {
         let place = table + 8 * k;
         let to = least(from + number_at(input, place), end);
-        let fed = offer(link, &mut head, &mut rows, &input[from..to]);
+        let fed = offer(rt, link, &mut head, &mut rows, &input[from..to])?;
         otherwise = and_other(otherwise, fed.taken, number_at(input, place + 4));
         link = fed.link;
         from += fed.taken;
         k += 1;
     }
-    print_end(link, &head);
-    print_counts(portions as u64, otherwise as u64);
-    end
+    print_end(rt, link, &head)?;
+    print_counts(rt, portions as u64, otherwise as u64)?;
+    Ok(end)
 }
 
-fn main() {
+// Reads until the bytes are full or the input ends, and answers how many it put at their start. A read that a signal interrupts is
+// made again.
+fn read_full(input: &mut impl Read, bytes: &mut [u8]) -> io::Result<usize>
+    ensures { IfOk result (λ n. n ≤ length bytes.new) }
+{
+    let mut done = 0;
+    for _ in 0..u64::MAX {
+        match input.read(&mut bytes[done..]) {
+            Ok(0) => break,
+            Ok(n) => done += n,
+            Err(error) => {
+                if error.kind() != ErrorKind::Interrupted {
+                    return Err(error);
+                }
+            }
+        }
+    }
+    Ok(done)
+}
+
+fn main(rt: HostRuntime) -> io::Result<()> {
     let mut input = [0u8; 65536];
-    let n = io::read_full(libc::STDIN_FILENO, &mut input);
+    let n = read_full(&mut rt.stdin(), &mut input)?;
     let mut at = 0;
     while at < n {
-        at = run_section(&input[..n], at);
+        at = run_section(&rt, &input[..n], at)?;
     }
+    Ok(())
 }

@@ -17,6 +17,7 @@ use line::Tolerances;
 use once::{Normalize, Task, WarmStart};
 use rows::{Point, Row};
 use solve::{Answer, Outcome};
+use std::io;
 use step::Frame;
 
 // One row more than is taken.
@@ -107,78 +108,72 @@ fn by_records(rows: [Row; ROWS], n: usize, task: Task, allowance: u64) -> Record
 
 // ---- what is printed
 
-fn print(text: &[u8]) {
-    io::write_all(libc::STDOUT_FILENO, text);
-}
-
-fn print_number(n: u64) {
-    print(b" ");
-    io::print_decimal(libc::STDOUT_FILENO, n);
+fn print_number(rt: &impl Print, n: u64) -> io::Result<()> {
+    print!(rt; " {n}")
 }
 
 // By its bits.
-fn print_float(x: f64) {
-    print(b" ");
-    io::print_hex(libc::STDOUT_FILENO, float::bits_of(x), 16);
+fn print_float(rt: &impl Print, x: f64) -> io::Result<()> {
+    print!(rt; " {:016x}", float::bits_of(x))
 }
 
-fn print_slot(slot: Slot) {
+fn print_slot(rt: &impl Print, slot: Slot) -> io::Result<()> {
     match slot {
-        Slot::NoRow => print(b" -"),
-        Slot::Holds(k) => print_number(k as u64),
+        Slot::NoRow => print!(rt; " -"),
+        Slot::Holds(k) => print_number(rt, k as u64),
     }
 }
 
-fn print_active(act: Active) {
+fn print_active(rt: &impl Print, act: Active) -> io::Result<()> {
     let one = act.first;
     let other = act.second;
-    print_slot(one);
-    print_slot(other);
+    print_slot(rt, one)?;
+    print_slot(rt, other)
 }
 
-fn print_answer(a: Answer) {
+fn print_answer(rt: &impl Print, a: Answer) -> io::Result<()> {
     match a {
         Answer::Point(x, y) => {
-            print(b" point");
-            print_float(x);
-            print_float(y);
+            print!(rt; " point")?;
+            print_float(rt, x)?;
+            print_float(rt, y)
         }
         Answer::Level(y) => {
-            print(b" level");
-            print_float(y);
+            print!(rt; " level")?;
+            print_float(rt, y)
         }
         Answer::Across(x) => {
-            print(b" across");
-            print_float(x);
+            print!(rt; " across")?;
+            print_float(rt, x)
         }
-        Answer::Nothing => print(b" nothing"),
+        Answer::Nothing => print!(rt; " nothing"),
     }
 }
 
 // A refusal that returns a count, with it.
-fn print_outcome(got: Outcome) {
+fn print_outcome(rt: &impl Print, got: Outcome) -> io::Result<()> {
     match got {
         Outcome::Answered(a, act, n) => {
-            print_answer(a);
-            print_active(act);
-            print_number(n);
+            print_answer(rt, a)?;
+            print_active(rt, act)?;
+            print_number(rt, n)
         }
         Outcome::Stopped(n) => {
-            print(b" refused 3");
-            print_number(n);
+            print!(rt; " refused 3")?;
+            print_number(rt, n)
         }
         Outcome::Refused(k) => {
-            print(b" refused");
-            print_number(k);
+            print!(rt; " refused")?;
+            print_number(rt, k)
         }
     }
 }
 
 // The end of a line: what the collector holds.
-fn print_left(act: Active) {
-    print(b", left");
-    print_active(act);
-    print(b"\n");
+fn print_left(rt: &impl Print, act: Active) -> io::Result<()> {
+    print!(rt; ", left")?;
+    print_active(rt, act)?;
+    println!(rt; "")
 }
 
 // ---- the collector
@@ -191,14 +186,14 @@ fn rows_5_9() -> Active {
     }
 }
 
-fn sets() {
+fn sets(rt: &impl Print) -> io::Result<()> {
     let left = settings(active::no_rows(), 5, 9);
-    print(b"set_first");
-    print_left(left.first);
-    print(b"set_second");
-    print_left(left.second);
-    print(b"clear");
-    print_left(left.cleared);
+    print!(rt; "set_first")?;
+    print_left(rt, left.first)?;
+    print!(rt; "set_second")?;
+    print_left(rt, left.second)?;
+    print!(rt; "clear")?;
+    print_left(rt, left.cleared)
 }
 
 // Tolerance 1e-9, scale 10, start (0, 1e6), nothing skipped.
@@ -218,31 +213,37 @@ fn task_of(normalize: Normalize) -> Task {
 }
 
 // A solve with a collector that holds rows 5 and 9.
-fn collects(name: &[u8], rows: &mut [f64], allowance: u64) {
+fn collects(rt: &impl Print, name: &str, rows: &mut [f64], allowance: u64) -> io::Result<()> {
     let got = collecting(rows, task_of(Normalize::Off), allowance, rows_5_9());
     let outcome = got.outcome;
-    print(b"solve_collecting ");
-    print(name);
-    print_outcome(outcome);
-    print_left(got.active);
+    print!(rt; "solve_collecting {name}")?;
+    print_outcome(rt, outcome)?;
+    print_left(rt, got.active)
 }
 
-fn recovers(name: &[u8], rows: &[f64], upto: usize, at: Point, f: Frame, c: Active) {
+fn recovers(
+    rt: &impl Print,
+    name: &str,
+    rows: &[f64],
+    upto: usize,
+    at: Point,
+    f: Frame,
+    c: Active,
+) -> io::Result<()> {
     let got = recovering(rows, upto, at, f, c);
-    print(b"recover_collecting ");
-    print(name);
+    print!(rt; "recover_collecting {name}")?;
     let answer = got.answer;
     match answer {
         Recovery::At(p) => {
-            print_float(p.x);
-            print_float(p.y);
+            print_float(rt, p.x)?;
+            print_float(rt, p.y)?;
         }
         Recovery::Refused(k) => {
-            print(b" refused");
-            print_number(k);
+            print!(rt; " refused")?;
+            print_number(rt, k)?;
         }
     }
-    print_left(got.active);
+    print_left(rt, got.active)
 }
 
 // ---- rows as records, beside the same rows as floats
@@ -395,7 +396,7 @@ fn by_floats(flat: &mut [f64], n: usize, task: Task, allowance: u64) -> Outcome
 }
 
 // The first n rows, solved as records and as floats.
-fn compares(n: usize, normalize: Normalize, allowance: u64)
+fn compares(rt: &impl Print, n: usize, normalize: Normalize, allowance: u64) -> io::Result<()>
     requires { n ≤ most_rows + 1 }
 {
     let task = task_of(normalize);
@@ -404,27 +405,28 @@ fn compares(n: usize, normalize: Normalize, allowance: u64)
     let outcome = got.outcome;
     let rows = got.rows;
     let other = by_floats(&mut flat, n, task, allowance);
-    print(b"solve_rows");
-    print_number(n as u64);
-    print_outcome(outcome);
+    print!(rt; "solve_rows")?;
+    print_number(rt, n as u64)?;
+    print_outcome(rt, outcome)?;
     if same_outcome(outcome, other) && same_rows(rows, &flat) {
-        print(b", same\n");
+        println!(rt; ", same")
     } else {
-        print(b", differs\n");
+        println!(rt; ", differs")
     }
 }
 
-fn main() {
-    sets();
-    collects(b"S3", &mut [1.0, 1.0, 2.0, -1.0, 1.0, 0.0], 7);
+fn main(rt: HostRuntime) -> io::Result<()> {
+    sets(&rt)?;
+    collects(&rt, "S3", &mut [1.0, 1.0, 2.0, -1.0, 1.0, 0.0], 7)?;
     collects(
-        b"S3, one reading less",
+        &rt,
+        "S3, one reading less",
         &mut [1.0, 1.0, 2.0, -1.0, 1.0, 0.0],
         6,
-    );
-    collects(b"S4", &mut [0.0, 1.0, 1.0, 0.0, -1.0, -2.0], 1000);
-    collects(b"seven floats", &mut [0.0; 7], 1000);
-    collects(b"4097 rows", &mut [0.0; 3 * ROWS], 1000);
+    )?;
+    collects(&rt, "S4", &mut [0.0, 1.0, 1.0, 0.0, -1.0, -2.0], 1000)?;
+    collects(&rt, "seven floats", &mut [0.0; 7], 1000)?;
+    collects(&rt, "4097 rows", &mut [0.0; 3 * ROWS], 1000)?;
     // The next two are the original's.
     let one = [2.0, 2.0, -2.0];
     let edge = float::float_of(0x3FBF_5A4C_000A_EC40);
@@ -441,9 +443,10 @@ fn main() {
         first: Slot::Holds(77),
         second: Slot::NoRow,
     };
-    recovers(b"found", &one, 1, from, frame, alone);
+    recovers(&rt, "found", &one, 1, from, frame, alone)?;
     recovers(
-        b"nothing found",
+        &rt,
+        "nothing found",
         &[
             float::float_of(0xBFC9_78CC_777E_FAD1),
             float::float_of(0xBFE5_79CC_828A_A717),
@@ -463,10 +466,18 @@ fn main() {
             first: Slot::NoRow,
             second: Slot::Holds(1),
         },
-    );
-    recovers(b"two rows of one", &one, 2, from, frame, rows_5_9());
-    recovers(b"two floats", &[2.0, 2.0], 0, from, frame, rows_5_9());
-    recovers(b"4097 rows", &[0.0; 3 * ROWS], 0, from, frame, rows_5_9());
+    )?;
+    recovers(&rt, "two rows of one", &one, 2, from, frame, rows_5_9())?;
+    recovers(&rt, "two floats", &[2.0, 2.0], 0, from, frame, rows_5_9())?;
+    recovers(
+        &rt,
+        "4097 rows",
+        &[0.0; 3 * ROWS],
+        0,
+        from,
+        frame,
+        rows_5_9(),
+    )?;
     // As many rows as are taken, of which the last alone bounds y.
     let mut most = [0.0; 3 * rows::MOST_ROWS];
     rows::put_row(
@@ -478,9 +489,10 @@ fn main() {
             c: 5.0,
         },
     );
-    collects(b"4096 rows", &mut most, 1000000);
+    collects(&rt, "4096 rows", &mut most, 1000000)?;
     recovers(
-        b"4096 rows",
+        &rt,
+        "4096 rows",
         &most,
         rows::MOST_ROWS,
         Point { x: 0.0, y: 1e6 },
@@ -490,12 +502,12 @@ fn main() {
             reduced: 1e-8,
         },
         rows_5_9(),
-    );
-    compares(2, Normalize::Off, 1000000);
-    compares(64, Normalize::Off, 1000000);
-    compares(65, Normalize::Source, 1000000);
-    compares(65, Normalize::Source, 100);
-    compares(2048, Normalize::Off, 1000000);
-    compares(4096, Normalize::Source, 1000000);
-    compares(4097, Normalize::Source, 1000000);
+    )?;
+    compares(&rt, 2, Normalize::Off, 1000000)?;
+    compares(&rt, 64, Normalize::Off, 1000000)?;
+    compares(&rt, 65, Normalize::Source, 1000000)?;
+    compares(&rt, 65, Normalize::Source, 100)?;
+    compares(&rt, 2048, Normalize::Off, 1000000)?;
+    compares(&rt, 4096, Normalize::Source, 1000000)?;
+    compares(&rt, 4097, Normalize::Source, 1000000)
 }

@@ -8,10 +8,14 @@
 //     recover UPTO X Y EPS REDUCED BOX FIRST SECOND n a b c .. = X Y FIRST SECOND | refused K FIRST SECOND
 #![tactic(auto)]
 
+ghost use Rattle.std.specs.Prelude.{◌≤◌, length, IfOk};
+
 use active::{Active, Collector, Slot};
 use line::{Bounds, Tolerances};
 use recover::Recovered;
 use rows::{Crossing, Normalized, Point, Row};
+use std::io;
+use std::io::{ErrorKind, Read};
 use step::Frame;
 use vectors::Number;
 
@@ -222,7 +226,7 @@ fn holds(text: &[u8], at: usize) -> bool {
 }
 
 // The lines that begin with a word.
-fn replay(text: &[u8], word: &[u8]) {
+fn replay(rt: &impl Print, text: &[u8], word: &[u8]) -> io::Result<()> {
     let mut right = 0u64;
     let mut lines = 0u64;
     let mut at = 0;
@@ -235,18 +239,38 @@ fn replay(text: &[u8], word: &[u8]) {
         }
         at = vectors::past(text, at, b'\n');
     }
-    io::write_all(libc::STDOUT_FILENO, word);
-    vectors::report(right, lines);
+    rt.write_all(word)?;
+    vectors::report(rt, right, lines)
 }
 
-fn main() {
+// Reads until the text is full or the input ends, and answers how many bytes it put at the text's start. A read that a signal
+// interrupts is made again.
+fn read_full(input: &mut impl Read, text: &mut [u8]) -> io::Result<usize>
+    ensures { IfOk result (λ n. n ≤ length text.new) }
+{
+    let mut done = 0;
+    for _ in 0..u64::MAX {
+        match input.read(&mut text[done..]) {
+            Ok(0) => break,
+            Ok(n) => done += n,
+            Err(error) => {
+                if error.kind() != ErrorKind::Interrupted {
+                    return Err(error);
+                }
+            }
+        }
+    }
+    Ok(done)
+}
+
+fn main(rt: HostRuntime) -> io::Result<()> {
     let mut text = [0u8; 262144];
-    let n = io::read_full(libc::STDIN_FILENO, &mut text);
+    let n = read_full(&mut rt.stdin(), &mut text)?;
     let held = &text[..n];
-    replay(held, b"root ");
-    replay(held, b"fused ");
-    replay(held, b"two ");
-    replay(held, b"norm ");
-    replay(held, b"line ");
-    replay(held, b"recover ");
+    replay(&rt, held, b"root ")?;
+    replay(&rt, held, b"fused ")?;
+    replay(&rt, held, b"two ")?;
+    replay(&rt, held, b"norm ")?;
+    replay(&rt, held, b"line ")?;
+    replay(&rt, held, b"recover ")
 }

@@ -2,83 +2,97 @@
 // and everything written: a read or a write that fails is said on standard error, and then there is none.
 #![tactic(auto)]
 
-ghost use Rattle.std.specs.Prelude.{◌≡◌, true, ◌≤◌, length};
+ghost use Rattle.std.specs.Prelude.{◌≡◌, true, ◌≤◌, length, IfOk, OnOk};
+ghost use Rattle.std.specs.Io.KnownBytes.{Appends, ReadConsumes, WriteAppends};
 ghost use Rattle.text.specs.Sizes.{longest_line};
-ghost use Rattle.reader.specs.Reader.{state, most_bytes, started, listening, after_all};
+ghost use Rattle.reader.specs.Reader.{state, most_bytes, started, listening, after_all, texts, end_text};
 
 use reader::Link;
+use std::fmt::InlineText;
+use std::io::{ErrorKind, Read, Write};
+use std::{io, thread};
 
 // More than there can be reads before the bytes that count are read, and more than anybody waits for.
 const MOST_TRIES: u64 = 0x8000_0000_0000_0000;
 
 // Whether a call that failed is to be made again: a signal came in between, or the other side has nothing yet, or no room yet, and
 // then others go first.
-fn is_passing() -> bool {
-    let error = os::errno();
-    if error == libc::EAGAIN {
-        libc::sched_yield();
+fn is_passing(error: io::Error) -> bool {
+    let kind = error.kind();
+    if kind == ErrorKind::WouldBlock {
+        thread::yield_now();
         return true;
     }
-    error == libc::EINTR
+    kind == ErrorKind::Interrupted
 }
 
-// As many bytes as are there now, and none at the end of the input; -1 where the read fails.
-fn read_some(input: &mut [u8]) -> isize {
-    let mut tries = MOST_TRIES;
-    while tries > 0 {
-        let got = libc::read(libc::STDIN_FILENO, input);
-        if got >= 0 {
-            return got;
-        }
-        if !is_passing() {
-            return -1;
-        }
-        tries -= 1;
-    }
-    -1
+fn no_end() -> io::Error {
+    io::Error::new(ErrorKind::TimedOut, "gave up after 2^63 tries")
 }
 
-// How many bytes of the text could be written now; 0 where none could, and where the write fails.
-fn write_some(text: &[u8]) -> usize
-    ensures { result ≤ length text.now }
+// As many bytes as are there now, and none at the end of the input.
+fn read_some<R: Read>(source: &mut R, input: &mut [u8]) -> io::Result<usize>
+    ensures bound { IfOk result (λ n. n ≤ length input.new) }
+    ensures length { length input.new ≡ length input.old }
+    ensures bytes { ReadConsumes (R.remaining source.old) (R.remaining source.new) result input.new }
 {
-    let mut tries = MOST_TRIES;
-    while tries > 0 {
-        let put = libc::write(libc::STDOUT_FILENO, text);
-        if put >= 0 {
-            return io::count(put, text);
+    for _ in 0..MOST_TRIES {
+        match source.read(input) {
+            Ok(got) => return Ok(got),
+            Err(error) => {
+                if !is_passing(error) {
+                    return Err(error);
+                }
+            }
         }
-        if !is_passing() {
-            return 0;
-        }
-        tries -= 1;
     }
-    0
+    Err(no_end())
 }
 
-// Whether all of the text could be written.
-fn write_whole(text: &[u8]) -> bool {
+// How many bytes of the text could be written now.
+fn write_some<W: Write>(sink: &mut W, text: &[u8]) -> io::Result<usize>
+    ensures bound { IfOk result (λ n. n ≤ length text.now) }
+    ensures bytes { WriteAppends (W.contents sink.old) (W.contents sink.new) result text.now }
+{
+    for _ in 0..MOST_TRIES {
+        match sink.write(text) {
+            Ok(put) => return Ok(put),
+            Err(error) => {
+                if !is_passing(error) {
+                    return Err(error);
+                }
+            }
+        }
+    }
+    Err(no_end())
+}
+
+// All of the text. A write that takes no byte has failed.
+fn write_whole<W: Write>(sink: &mut W, text: &[u8]) -> io::Result<()>
+    ensures { OnOk result (Appends (W.contents sink.old) (W.contents sink.new) text.now) }
+{
     let mut done = 0;
     while done < text.len() {
-        let put = write_some(&text[done..]);
+        let put = write_some(sink, &text[done..])?;
         if put == 0 {
-            return false;
+            return Err(io::Error::new(ErrorKind::WriteZero, "no byte could be written"));
         }
         done += put;
     }
-    true
+    Ok(())
 }
 
 // The link after a portion, and whether its lines were written.
 #[derive(Clone, Copy)]
 struct Progress {
     link: Link,
-    written: bool,
+    written: io::Result<()>,
 }
 
 // The lines of a portion, written where there is no room for another, and at the portion's end: whoever waits for an answer
 // before sending more has it.
-fn print_portion(
+fn print_portion<W: Write>(
+    sink: &mut W,
     link: Link,
     head: &mut [u8; record::ROWS_AT],
     rows: &mut [f64; record::FLOATS],
@@ -88,8 +102,10 @@ fn print_portion(
     requires head_value { listening link head.old ≡ true }
     requires longest_line_in_bounds { longest_line ≤ length out.old }
     ensures listens { listening result.link head.new ≡ true }
-    ensures all { result.written ≡ true
-        → state result.link head.new rows.new ≡ after_all (state link head.old rows.old) bytes.now }
+    ensures all { OnOk result.written
+        (state result.link head.new rows.new ≡ after_all (state link head.old rows.old) bytes.now) }
+    ensures printed { OnOk result.written
+        (Appends (W.contents sink.old) (W.contents sink.new) (texts (state link head.old rows.old) bytes.now)) }
 {
     let mut now = link;
     let mut from = 0;
@@ -97,16 +113,16 @@ fn print_portion(
         let fed = link::fill(now, head, rows, &bytes[from..], out);
         now = fed.link;
         from += fed.taken;
-        if !write_whole(&out[..fed.printed]) {
+        if let Err(error) = write_whole(sink, &out[..fed.printed]) {
             return Progress {
                 link: now,
-                written: false,
+                written: Err(error),
             };
         }
     }
     Progress {
         link: now,
-        written: true,
+        written: Ok(()),
     }
 }
 
@@ -118,38 +134,60 @@ fn opened() -> Link
 }
 
 // The last lines.
-fn print_end(link: Link, head: &[u8; record::ROWS_AT]) -> bool {
+fn print_end<W: Write>(sink: &mut W, link: Link, head: &[u8; record::ROWS_AT]) -> io::Result<()>
+    ensures { OnOk result (Appends (W.contents sink.old) (W.contents sink.new) (end_text link head.now)) }
+{
     let mut last = [0u8; link::LINE];
     let fed = link::end(link, head, &mut last);
-    write_whole(&last[..fed.printed])
+    write_whole(sink, &last[..fed.printed])
 }
 
-fn main() {
+// Why there is no line `end`.
+#[derive(Clone, Copy)]
+enum Failure {
+    Read(io::Error),
+    Write(io::Error),
+}
+
+// All lines, of all portions as they come.
+fn run(source: &mut impl Read, sink: &mut impl Write) -> Result<(), Failure> {
     let mut head = [0u8; record::ROWS_AT];
     let mut rows = [0.0; record::FLOATS];
     let mut input = [0u8; 131072];
     let mut out = [0u8; 65536];
     let mut link = opened();
-    let mut reads = MOST_TRIES;
-    while reads > 0 {
-        let got = read_some(&mut input);
-        if got < 0 {
-            os::fail(b"rowrun: standard input");
-            return;
-        }
-        if got == 0 {
+    for _ in 0..MOST_TRIES {
+        let n = match read_some(source, &mut input) {
+            Ok(n) => n,
+            Err(error) => return Err(Failure::Read(error)),
+        };
+        if n == 0 {
             break;
         }
-        let n = io::count(got, &input);
-        let progress = print_portion(link, &mut head, &mut rows, &input[..n], &mut out);
-        if !progress.written {
-            os::fail(b"rowrun: standard output");
-            return;
+        let progress = print_portion(sink, link, &mut head, &mut rows, &input[..n], &mut out);
+        if let Err(error) = progress.written {
+            return Err(Failure::Write(error));
         }
         link = progress.link;
-        reads -= 1;
     }
-    if !print_end(link, &head) {
-        os::fail(b"rowrun: standard output");
+    print_end(sink, link, &head).map_err(Failure::Write)
+}
+
+// Says what failed, in the system's words: std's without the number behind them.
+fn complain(rt: &impl Eprint, stream: &str, error: io::Error) {
+    let said = InlineText::<256>::of(error);
+    let all = said.as_str();
+    let words = match all.split_once(" (os error ") {
+        Some((words, _)) => words,
+        None => all,
+    };
+    let _ = eprintln!(rt; "rowrun: {stream}: {words}");
+}
+
+fn main(rt: HostRuntime) {
+    match run(&mut rt.stdin(), &mut rt.stdout()) {
+        Ok(()) => {}
+        Err(Failure::Read(error)) => complain(&rt, "standard input", error),
+        Err(Failure::Write(error)) => complain(&rt, "standard output", error),
     }
 }

@@ -4,6 +4,8 @@
 
 ghost use Rattle.std.specs.Prelude.{◌≡◌, ◌≤◌, ◌<◌, length, take};
 
+use std::io;
+
 #[derive(Clone, Copy)]
 enum Bits {
     Of(u64),
@@ -170,9 +172,6 @@ pub fn expected(text: &[u8], at: usize, floats: &[f64]) -> bool {
 }
 
 // Writes how many of the lines came out right.
-pub fn report(right: u64, lines: u64) {
-    io::print_decimal(libc::STDOUT_FILENO, right);
-    io::write_all(libc::STDOUT_FILENO, b" of ");
-    io::print_decimal(libc::STDOUT_FILENO, lines);
-    io::write_all(libc::STDOUT_FILENO, b" right\n");
+pub fn report(rt: &impl Print, right: u64, lines: u64) -> io::Result<()> {
+    println!(rt; "{right} of {lines} right")
 }
