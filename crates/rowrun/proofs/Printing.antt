@@ -1,7 +1,7 @@
 -- A portion on its way, a buffer of lines at a time: the reader is as after the bytes taken so far, and listens.
-use mathlib.Core.Path.{◌≡◌, refl, sym, ap, ◌∙◌}
+use mathlib.Core.Path.{◌≡◌, refl, sym, ap, ap₂, ◌∙◌}
 use mathlib.Core.Bool.{true}
-use mathlib.Core.List.{List}
+use mathlib.Core.List.{List, ◌++◌}
 use Prim.Native.Nat.{ℕ, ◌+◌, ◌-◌, ◌≤◌, ◌<◌}
 use native.Mathlib.Omega.{arith}
 use lib.Ieee.{Float}
@@ -10,8 +10,8 @@ use lib.Seq.{take_all, take-add}
 use Rattle.text.specs.Sizes.{longest_line}
 use Rattle.record.proofs.Bytes.{behind, lent}
 use Rattle.reader.specs.declared.Link.{Link}
-use Rattle.reader.specs.Reader.{State, state, listening, after_all, up_to_room, taken_in, fed}
-use Rattle.portions.proofs.Bytes.{after_all-append}
+use Rattle.reader.specs.Reader.{State, state, listening, after_all, texts, up_to_room, taken_in, fed}
+use Rattle.portions.proofs.Bytes.{after_all-append, texts-append}
 use Rattle.portions.proofs.Listening.{keeps_listening}
 use Rattle.portions.proofs.Taken.{takes_no_more_in, fills_some}
 use Rattle.link.proofs.Entries.{taken_in_room}
@@ -64,3 +64,11 @@ module _ {s : State} {bytes : List ℕ} {t : State} {from : ℕ} (way : Printing
 
 pub all_printed : {s : State} {bytes : List ℕ} {t : State} {from : ℕ} → Printing s bytes t from → length bytes ≤ from → t ≡ after_all s bytes
 all_printed {s} {bytes} {from = from} way none = way.left ∙ rw (take_all from bytes none)
+
+-- what the next bytes print stands behind what those before printed
+pub printed_then : {s : State} {bytes : List ℕ} {t : State} {from : ℕ} → Printing s bytes t from → (n : ℕ)
+    → texts s (take from bytes) ++ texts t (take n (behind bytes from)) ≡ texts s (take (from + n) bytes)
+printed_then {s} {bytes} {t} {from} way n =
+    ap₂ (λ u l. texts s (take from bytes) ++ texts u (take n l)) way.left (lent bytes from)
+    ∙ sym (texts-append s (take from bytes) (take n (drop from bytes)))
+    ∙ ap (texts s) (sym (take-add from n bytes))

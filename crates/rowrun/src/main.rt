@@ -2,9 +2,10 @@
 // and everything written: a read or a write that fails is said on standard error, and then there is none.
 #![tactic(auto)]
 
-ghost use Rattle.std.specs.Prelude.{◌≡◌, true, ◌≤◌, length, IfOk, OnOk};
+ghost use Rattle.std.specs.Prelude.{◌≡◌, true, ◌≤◌, length, IfSome, IfOk, OnOk};
 ghost use Rattle.std.specs.Io.KnownBytes.{Appends, ReadConsumes, WriteAppends};
 ghost use Rattle.text.specs.Sizes.{longest_line};
+ghost use Rattle.portions.specs.Stream.{output};
 ghost use Rattle.reader.specs.Reader.{state, most_bytes, started, listening, after_all, texts, end_text};
 
 use reader::Link;
@@ -149,8 +150,11 @@ enum Failure {
     Write(io::Error),
 }
 
-// All lines, of all portions as they come.
-fn run(source: &mut impl Read, sink: &mut impl Write) -> Result<(), Failure> {
+// All lines, of all portions as they come: of a source and a sink of known bytes, those that are defined for the input as a whole.
+fn run<R: Read, W: Write>(source: &mut R, sink: &mut W) -> Result<(), Failure>
+    ensures { OnOk result (IfSome (R.remaining source.old)
+        (λ input. Appends (W.contents sink.old) (W.contents sink.new) (output most_bytes input))) }
+{
     let mut head = [0u8; record::ROWS_AT];
     let mut rows = [0.0; record::FLOATS];
     let mut input = [0u8; 131072];
@@ -170,7 +174,10 @@ fn run(source: &mut impl Read, sink: &mut impl Write) -> Result<(), Failure> {
         }
         link = progress.link;
     }
-    print_end(sink, link, &head).map_err(Failure::Write)
+    if let Err(error) = print_end(sink, link, &head) {
+        return Err(Failure::Write(error));
+    }
+    Ok(())
 }
 
 // Says what failed, in the system's words: std's without the number behind them.

@@ -5,13 +5,13 @@ use Rattle.rowrun.proofs.Put.{text_fits, text_shape, text_first}
 use Rattle.rowrun.proofs.print_end.Goals as goal
 
 pub slice_bounds-last-end : goal.slice_bounds-last-end
-slice_bounds-last-end g c = let put = c.end-fed.ensures in text_fits put.printed put.out
+slice_bounds-last-end g c = let put = c.end-fed.ensures in text_fits _ _ _ put.printed put.out
 
 pub slice_bounds-write_whole-end : goal.slice_bounds-write_whole-end
-slice_bounds-write_whole-end g c = let put = c.end-fed.ensures in text_shape put.printed put.out
+slice_bounds-write_whole-end g c = let put = c.end-fed.ensures in text_shape _ _ _ put.printed put.out
 
 pub returns : goal.returns
 returns g c =
     let put = c.end-fed.ensures in
     let contents = g.W.Write.contents in
-    subst (λ t. OnOk c.write_whole.result (Appends (contents c.args.sink.now) (contents c.write_whole.new.sink) t)) (text_first put.printed put.out) c.write_whole.ensures
+    subst (λ t. OnOk c.write_whole.result (Appends (contents c.args.sink.now) (contents c.write_whole.new.sink) t)) (text_first _ _ _ put.printed put.out) c.write_whole.ensures

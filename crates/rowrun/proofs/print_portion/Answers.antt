@@ -1,12 +1,16 @@
 -- `rowrun::print_portion` meets its contract.
-use mathlib.Core.Path.{◌≡◌, refl}
+use mathlib.Core.Path.{◌≡◌, refl, ap, ◌∙◌}
+use mathlib.Core.List.{◌++◌}
 use Prim.Native.Nat.{◌+◌, ◌≤◌}
 use native.Mathlib.Omega.{arith}
 use borrow.Author.Rules.{rules}
-use lib.ListN.{length}
+use lib.ListN.{length, take}
+use lib.Seq.{take_all}
+use Rattle.std.proofs.Common.{subst}
+use Rattle.std.specs.Io.KnownBytes.{Appends}
 use Rattle.std.proofs.KnownBytes.{Appends-nil, Appends-trans}
-use Rattle.reader.specs.Reader.{state, texts}
-use Rattle.rowrun.proofs.Printing.{Printing, printing_start, not_past, nearer, printing_next, all_printed}
+use Rattle.reader.specs.Reader.{state, texts, said}
+use Rattle.rowrun.proofs.Printing.{Printing, printing_start, not_past, nearer, printing_next, printed_then, all_printed}
 use Rattle.rowrun.proofs.Put.{text_fits, text_shape, text_first}
 use Rattle.rowrun.proofs.print_portion.Goals as goal
 
@@ -18,34 +22,53 @@ loop-from-init g c =
 
 pub overflow_add-from : goal.overflow_add-from
 unfolding state
-overflow_add-from g c = ?
+overflow_add-from g c =
+    let l = c.loop-from in
+    let past : l.from + c.fill-fed.result.taken ≤ length c.args.bytes.now = rw c.fill-fed.ensures.taken (not_past l.invariant.0 (length l.out)) in
+    search (rules, past)
 
 pub slice_bounds-write_whole-end : goal.slice_bounds-write_whole-end
-slice_bounds-write_whole-end g c = ?
+slice_bounds-write_whole-end g c = let fed = c.fill-fed.ensures in text_fits _ _ _ fed.printed fed.out
 
 pub slice_bounds-write_whole-end-in-loop-from : goal.slice_bounds-write_whole-end-in-loop-from
-slice_bounds-write_whole-end-in-loop-from g c = ?
+slice_bounds-write_whole-end-in-loop-from g c = let fed = c.fill-fed.ensures in text_shape _ _ _ fed.printed fed.out
 
 pub returns-in-Err-clause-listens : goal.returns-in-Err-clause-listens
 unfolding state
-returns-in-Err-clause-listens g c = ?
+returns-in-Err-clause-listens g c =
+    let l = c.loop-from in
+    let fed = c.fill-fed.ensures in
+    let next = printing_next l.invariant.0 (length l.out) fed.taken fed.link fed.head fed.rows in
+    next.hears
 
 pub loop-from-smaller : goal.loop-from-smaller
 unfolding state
-loop-from-smaller g c = ?
+loop-from-smaller g c =
+    let l = c.loop-from in
+    rw c.fill-fed.ensures.taken (nearer l.invariant.0 (length l.out) (omega (arith, c.requires.longest_line_in_bounds, l.invariant.1)) c.loop-from-test.true)
 
 pub loop-from-preserved : goal.loop-from-preserved
-unfolding state
-loop-from-preserved g c = ?
+unfolding state said
+loop-from-preserved g c =
+    let l = c.loop-from in
+    let fed = c.fill-fed.ensures in
+    let before = l.invariant.2 in
+    let lines = subst (Appends _ _) (text_first _ _ _ fed.printed fed.out) c.in_default.ensures in (
+      printing_next l.invariant.0 (length l.out) fed.taken fed.link fed.head fed.rows,
+      search rules,
+      subst (Appends _ _) (printed_then l.invariant.0 c.fill-fed.result.taken) (Appends-trans _ _ _ _ _ before lines),
+    )
 
 pub returns-clause-listens : goal.returns-clause-listens
 unfolding state
-returns-clause-listens g c = ?
+returns-clause-listens g c = c.loop-from.invariant.0.hears
 
 pub returns-clause-all : goal.returns-clause-all
 unfolding state
-returns-clause-all g c = ?
+returns-clause-all g c = all_printed c.loop-from.invariant.0 c.loop-from-test.false
 
 pub returns-clause-printed : goal.returns-clause-printed
 unfolding state
-returns-clause-printed g c = ?
+returns-clause-printed g c =
+    let l = c.loop-from in
+    subst (Appends _ _) (ap (texts (state c.args.link c.args.head.now c.args.rows.now)) (take_all l.from c.args.bytes.now c.loop-from-test.false)) l.invariant.2

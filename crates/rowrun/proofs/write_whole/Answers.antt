@@ -13,6 +13,7 @@ loop-done-preserved g c =
     let text = c.args.text.now in
     let done = c.loop-done.done in
     let put = c.in_ok-put.put in
-    let both = ap (λ l. take done text ++ take put l) (lent text done) ∙ sym (take-add done put text) in
-    (omega (arith, c.in_ok-put.ensures.bound, ap length (lent text done), length-drop done text),
-    subst (Appends _ _) both (Appends-trans _ _ _ _ _ c.loop-done.invariant.1 c.in_ok-put.ensures.bytes))
+    let both = ap (λ l. take done text ++ take put l) (lent text done) ∙ sym (take-add done put text) in (
+      omega (arith, c.in_ok-put.ensures.bound, ap length (lent text done), length-drop done text),
+      subst (Appends _ _) both (Appends-trans _ _ _ _ _ c.loop-done.invariant.1 c.in_ok-put.ensures.bytes),
+    )
