@@ -9,10 +9,10 @@ use lib.Ieee.{Float}
 use lib.ListN.{length, take, length-append}
 use lib.Seq.{take-append-le}
 use Rattle.std.proofs.Common.{None, Some, IfSome, subst}
-use Rattle.core.specs.declared.option.Option.{Option}
+use Rattle.std.specs.declared.option.Option.{Option}
 use Rattle.std.specs.Io.KnownBytes.{Appends, Consumes, IsAtEnd}
 use Rattle.std.proofs.KnownBytes.{Appends-nil, Appends-trans, Consumes-nil, Consumes-trans, Consumes-whole}
-use Rattle.float.specs.Operators.{if◌then◌else◌}
+use Rattle.float.specs.Operators.{when◌then◌else◌}
 use Rattle.record.specs.Sizes.{rows_at, most_floats}
 use Rattle.reader.specs.declared.Link.{Link}
 use Rattle.reader.specs.Reader.{State, state, most_bytes, started, listening, after_all, texts, last_text, end_text}
@@ -83,7 +83,7 @@ module _ {input left held filled : Option (List ℕ)} {t : State} {reads : ℕ} 
       }
 
   last_is : end_text t.link t.head ≡ last_text (after_all begun way.seen).link
-  unfolding end_text if◌then◌else◌
+  unfolding end_text when◌then◌else◌
   last_is = rw (reading_listens, way.now_is) refl
 
   -- with the last text all is written that is defined for the bytes that were seen
