@@ -12,7 +12,6 @@ use Rattle.std.proofs.Common.{None, Some, IfSome, subst}
 use Rattle.std.specs.declared.option.Option.{Option}
 use Rattle.std.specs.Io.KnownBytes.{Appends, Consumes, IsAtEnd}
 use Rattle.std.proofs.KnownBytes.{Appends-nil, Appends-trans, Consumes-nil, Consumes-trans, Consumes-whole}
-use Rattle.float.specs.Operators.{when◌then◌else◌}
 use Rattle.record.specs.Sizes.{rows_at, most_floats}
 use Rattle.reader.specs.declared.Link.{Link}
 use Rattle.reader.specs.Reader.{State, state, most_bytes, started, listening, after_all, texts, last_text, end_text}
@@ -20,6 +19,7 @@ use Rattle.portions.specs.Stream.{output}
 use Rattle.portions.proofs.Bytes.{after_all-append, texts-append}
 use Rattle.portions.proofs.Listening.{started_listens, keeps_listening}
 use Rattle.portions.proofs.Whole.{told_whole}
+use Rattle.link.proofs.Entries.{last-text}
 
 -- what holds of these bytes with any behind them
 whatever_left : (input left : Option (List ℕ)) (seen : List ℕ) (P : List ℕ → Type 0) → Consumes input left seen → ((ys : List ℕ) → P (seen ++ ys)) → IfSome input P
@@ -83,8 +83,7 @@ module _ {input left held filled : Option (List ℕ)} {t : State} {reads : ℕ} 
       }
 
   last_is : end_text t.link t.head ≡ last_text (after_all begun way.seen).link
-  unfolding end_text when◌then◌else◌
-  last_is = rw (reading_listens, way.now_is) refl
+  last_is = sym (last-text t.link t.head reading_listens) ∙ ap (λ u. last_text u.link) way.now_is
 
   -- with the last text all is written that is defined for the bytes that were seen
   seen_told : (filled' : Option (List ℕ)) → Appends filled filled' (end_text t.link t.head) → Appends held filled' (output most_bytes way.seen)
