@@ -1,6 +1,5 @@
 -- `vectors::bits_at` is safe and ends. Assumes nothing.
 use Prim.Native.Nat.{◌-◌, ◌≤◌}
-use borrow.Author.Rules.{rules}
 use Rattle.vectors.proofs.bits_at.Given as goal
 
 abbrev pub invariant-loop-i : goal.invariant-loop-i

@@ -1,7 +1,6 @@
 -- `vectors::number_at` is safe and ends.
 use Prim.Native.Nat.{◌-◌, ◌<◌}
 use lib.ListN.{length}
-use borrow.Author.Rules.{rules}
 use Rattle.vectors.proofs.number_at.Given as goal
 
 abbrev pub invariant-loop-k : goal.invariant-loop-k

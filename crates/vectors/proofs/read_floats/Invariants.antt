@@ -1,9 +1,7 @@
 -- `vectors::read_floats` meets its contract. Assumes nothing.
 use mathlib.Core.Path.{◌≡◌}
 use Prim.Native.Nat.{◌-◌, ◌≤◌}
-use native.Mathlib.Omega.{arith}
-use borrow.Author.Rules.{rules}
-use lib.ListN.{length, length-set, length-take}
+use lib.ListN.{length}
 use Rattle.vectors.proofs.read_floats.Given as goal
 
 abbrev pub invariant-loop-k : goal.invariant-loop-k
