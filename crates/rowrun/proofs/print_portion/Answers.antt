@@ -1,16 +1,15 @@
 -- `rowrun::print_portion` meets its contract.
-use mathlib.Core.Path.{◌≡◌, refl, ap, ◌∙◌}
-use mathlib.Core.List.{◌++◌}
+use mathlib.Core.Path.{refl, ap}
 use Prim.Native.Nat.{◌+◌, ◌≤◌}
 use native.Mathlib.Omega.{arith}
 use borrow.Author.Rules.{rules}
-use lib.ListN.{length, take}
+use lib.ListN.{length}
 use lib.Seq.{take_all}
 use Rattle.std.proofs.Common.{subst}
 use Rattle.std.specs.Io.KnownBytes.{Appends}
 use Rattle.std.proofs.KnownBytes.{Appends-nil, Appends-trans}
 use Rattle.reader.specs.Reader.{state, texts, said}
-use Rattle.rowrun.proofs.Printing.{Printing, printing_start, not_past, nearer, printing_next, printed_then, all_printed}
+use Rattle.rowrun.proofs.Printing.{printing_start, not_past, nearer, printing_next, printed_then, all_printed}
 use Rattle.rowrun.proofs.Put.{text_fits, text_shape, text_first}
 use Rattle.rowrun.proofs.print_portion.Goals as goal
 

@@ -1,16 +1,16 @@
 -- `rowrun::run` writes what is defined for the input as a whole.
-use mathlib.Core.Path.{◌≡◌, refl, sym, ap, ◌∙◌}
-use Prim.Native.Nat.{◌+◌, ◌≤◌, ◌<◌}
+use mathlib.Core.Path.{refl}
+use Prim.Native.Nat.{◌<◌}
 use native.Mathlib.Omega.{arith}
 use borrow.Author.Rules.{rules}
 use lib.ListN.{length, take}
 use lib.Seq.{length-take-le}
 use Rattle.std.proofs.Common.{subst}
-use Rattle.std.specs.Io.KnownBytes.{Appends, Consumes}
+use Rattle.std.specs.Io.KnownBytes.{Consumes}
 use Rattle.text.specs.Sizes.{longest_line}
 use Rattle.record.specs.Sizes.{rows_at, most_floats}
 use Rattle.reader.specs.Reader.{state, most_bytes}
-use Rattle.rowrun.proofs.Reading.{Reading, reading_start, reading_listens, reading_on, all_told, most_told}
+use Rattle.rowrun.proofs.Reading.{reading_start, reading_listens, reading_on, all_told, most_told}
 use Rattle.rowrun.proofs.run.Goals as goal
 use Rattle.rowrun.proofs.run.Goals.{else-loop-test, then-loop-test+in-Ok+then-n-eq0}
 
