@@ -22,7 +22,8 @@ use Rattle.portions.proofs.Whole.{told_whole}
 use Rattle.link.proofs.Entries.{last-text}
 
 -- what holds of these bytes with any behind them
-whatever_left : (input left : Option (List ℕ)) (seen : List ℕ) (P : List ℕ → Type 0) → Consumes input left seen → ((ys : List ℕ) → P (seen ++ ys)) → IfSome input P
+whatever_left : (input left : Option (List ℕ)) (seen : List ℕ) (P : List ℕ → Type 0) → Consumes input left seen
+    → ((ys : List ℕ) → P (seen ++ ys)) → IfSome input P
 whatever_left None left seen P p h = tt
 whatever_left (Some xs) None seen P p h = absurd p
 whatever_left (Some xs) (Some ys) seen P p h = subst P (sym p) (h ys)

@@ -13,5 +13,6 @@ slice_bounds-write_whole-end g c = let put = c.end-fed.ensures in text_shape _ _
 pub returns : goal.returns
 returns g c =
     let put = c.end-fed.ensures in
-    let contents = g.W.Write.contents in
-    subst (λ t. OnOk c.write_whole.result (Appends (contents c.args.sink.now) (contents c.write_whole.new.sink) t)) (text_first _ _ _ put.printed put.out) c.write_whole.ensures
+    let before = g.W.Write.contents c.args.sink.now in
+    let after = g.W.Write.contents c.write_whole.new.sink in
+    subst (λ t. OnOk c.write_whole.result (Appends before after t)) (text_first _ _ _ put.printed put.out) c.write_whole.ensures
