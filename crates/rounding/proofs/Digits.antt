@@ -23,9 +23,6 @@ pub first : (w : ℕ) → w < 2 ^ 54 → Inv w (w * 2 % 2 ^ 64) (2 ^ 53) (2 ^ 52
 first w h = record { k = 53; G = 2 ^ 53; s = 0; holds = omega arith }
 
 module _ {w ix t h g i : ℕ} (v : Inv w ix t h g i) where
-  pub some : 1 ≤ t
-  some = omega (arith, pow_pos v.k)
-
   -- ---- a turn: G is 2 * h
   module _ (l : i < 53) where
     halves : (h ≡ 2 ^ (v.k - 1)) × (v.G ≡ 2 * 2 ^ (v.k - 1))

@@ -69,13 +69,6 @@ multiplied {b} {u} {d} {c} {v} {e} {p} x y h = rw h (record {
   ends = omega (arith, ap₂ (λ (z w : ℕ). z * w) (by_1024 u x.whole) (by_1024 v y.whole));
 })
 
-pub raised : {b m e : ℕ} → Taken b m e → Raised (m * 2 ^ 64 + 0)
-raised {b} {m} {e} x = rw (add-zero (m * 2 ^ 64)) (record {
-  least = mul-le-mul_right (2 ^ 64) x.least;
-  most = shl_lt 63 64 x.most;
-  ends = omega (arith, x.whole);
-})
-
 -- the exact product in units of 2 ^ -2272, and the addend in the same
 pub fuses : {ax xm xe ay ym ye az zm ze p : ℕ} → Taken ax xm xe → Taken ay ym ye → Taken az zm ze → p ≡ xm * ym → (na nc : Bool) (r : Float)
     → r ≡ sum binary64 na (p * 2 ^ (xe + ye)) nc ((zm * 2 ^ 64 + 0) * 2 ^ (ze + 1072)) (2 ^ 2272) → Fuses na ax ay nc az r

@@ -21,15 +21,6 @@ use Rattle.rounding.proofs.Rounding.{round_high}
 pub sq_lt_back : (a b : ℕ) → a * a < b * b → a < b
 sq_lt_back a b h = lt_of_not-le (λ (g : b ≤ a). not-le_of_lt h (mul-le-mul g g))
 
-pub next_square : (a : ℕ) → (a + 1) * (a + 1) ≡ a * a + 2 * a + 1
-next_square a = omega arith
-
-pub grows : (a : ℕ) → a * a < (a + 1) * (a + 1)
-grows a = omega arith
-
-pub double : (a b : ℕ) → 2 * a * (2 * b) ≡ a * b * 4
-double a b = omega arith
-
 -- a number with an even square is even
 pub even_square : (a : ℕ) → a * a % 2 ≡ 0 → a % 2 ≡ 0
 even_square a h = go (eq-zero-or-pos (a % 2))
@@ -209,7 +200,3 @@ module _ {b m e : ℕ} (t : Taken b m e) where
     near = half-most;
     reads = root_bits;
   })
-
--- what packing the root's digits q asks for
-pub packs : {b w half : ℕ} → Radical b w half → (q : ℕ) → IsRoot (w * 2 ^ 54) q → (half + 485 ≤ 2045) × (q < 2 ^ 54)
-packs {w} r q is = (r.near, root-small w q r.small is)

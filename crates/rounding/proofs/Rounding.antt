@@ -9,12 +9,6 @@ use Rattle.rounding.specs.Near.{Sticky}
 use Rattle.rounding.proofs.Powers.{one_shift, three_shifts, shift_under, shift_over}
 use Rattle.rounding.proofs.Sticky.{Window, round_at, closest_sticky}
 
-pub kept-most : (t : ℕ) → t < 2 ^ 64 → closest t 2048 ≤ 2 ^ 53
-kept-most t h = le_trans (nearest-le (t / 2048) (compare (t % 2048 * 2) 2048)) (shr_lt 53 11 h)
-
-pub kept-least : (t : ℕ) → 2 ^ 63 ≤ t → 2 ^ 52 ≤ closest t 2048
-kept-least t h = le_trans ((le-div_iff_mul-le {k = 2048} (lit< tt)).1 h) (nearest-ge (t / 2048) (compare (t % 2048 * 2) 2048))
-
 module _ (s : Bool) (sig e : ℕ) (lo : 2 ^ 63 ≤ sig) (hi : sig < 2 ^ 64) where
   -- in units of 2 ^ -1074 the number is n / 2 ^ 2336
   abbrev n : ℕ

@@ -27,16 +27,10 @@ sticky_up a b q lo hi =
 back_fits : (a d : ℕ) → a < 2 ^ 64 → a / 2 ^ d * 2 ^ d % 2 ^ 64 ≡ a / 2 ^ d * 2 ^ d
 back_fits a d h = mod-eq_of_lt (lt_of_le_of_lt (div-mul-le_self a (2 ^ d)) h)
 
-pub shift_yes : (a d : ℕ) → a < 2 ^ 64 → a / 2 ^ d * 2 ^ d % 2 ^ 64 ≡ a → Sticky a (2 ^ d) (a / 2 ^ d)
-shift_yes a d h e = inl (sym e ∙ back_fits a d h)
-
 pub shift_no : (a d : ℕ) → a < 2 ^ 64 → (a / 2 ^ d * 2 ^ d % 2 ^ 64 ≡ a → ⊥) → Sticky a (2 ^ d) (bit_or (a / 2 ^ d) 1)
 shift_no a d h n =
     sticky_up a (2 ^ d) (a / 2 ^ d) (lt_of_le-ne (div-mul-le_self a (2 ^ d)) (λ (e : a / 2 ^ d * 2 ^ d ≡ a). n (back_fits a d h ∙ e)))
     (omega (arith, lt-div-mul-add {a = a} (pow_pos d)))
-
-pub far_none : (a d : ℕ) → a ≡ 0 → Sticky a (2 ^ d) 0
-far_none a d e = inl (e ∙ sym (zero-mul (2 ^ d)))
 
 pub far_some : (a d : ℕ) → a < 2 ^ 64 → 64 ≤ d → (a ≡ 0 → ⊥) → Sticky a (2 ^ d) 1
 far_some a d h l n = let k : a < 2 ^ d = lt_of_lt_of_le h (pow_mono l) in inr (refl, omega arith, omega arith)

@@ -177,15 +177,3 @@ module _ (A C J ea ec : ℕ) (a : Multiplied A) (c : Raised C) where
   pub left : (s t : Bool) → ea ≤ ec → Sticky A (2 ^ (ec - ea)) J
       → sum binary64 s (J * 2 ^ ec) t (C * 2 ^ ec) (2 ^ 2272) ≡ sum binary64 s (A * 2 ^ ea) t (C * 2 ^ ec) (2 ^ 2272)
   left s t h st = alike (swapped (shifted C A J ec ea 20 (2 ^ 104) (omega (arith, c.ends)) (le_trans (lit≤ tt) c.least) a.ends a.most h st)) s t
-
-  pub right_fits : Sticky C (2 ^ (ea - ec)) J → (0 < A) × (A + J < 2 ^ 128)
-  right_fits st = (
-    lt_of_lt_of_le (lit< tt) a.least,
-    lt_of_lt_of_le (add-lt-add_of_lt_of_le a.most (le_of_lt (sticky_small C (2 ^ (ea - ec)) J (2 ^ 126) (pow_pos (ea - ec)) c.most st))) (lit≤ tt),
-  )
-
-  pub left_fits : Sticky A (2 ^ (ec - ea)) J → (0 < J) × (J + C < 2 ^ 128)
-  left_fits st = (
-    sticky_positive A (2 ^ (ec - ea)) J (lt_of_lt_of_le (lit< tt) a.least) st,
-    lt_of_lt_of_le (add-lt-add_of_lt_of_le (sticky_small A (2 ^ (ec - ea)) J (2 ^ 125) (pow_pos (ec - ea)) a.most st) (le_of_lt c.most)) (lit≤ tt),
-  )
