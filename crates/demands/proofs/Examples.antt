@@ -120,7 +120,7 @@ examples =
     solving (from lp_bound) 1000 rows₅ (Point zero (f64 0x44ea_7843_79d9_9db4)) NoRow NoRow 28 ∷  -- S5
     solving (from (num 999999)) 1000 rows₅ (Point zero (f64 0x412e_847e_0000_0000)) NoRow NoRow 8 ∷
     normalizing (row_of (num 3) (num 4) (num 10) ∷ []) (row_of (f64 0x3fe3_3333_3333_3334) (f64 0x3fe9_9999_9999_999a) (f64 0x4000_0000_0000_0000)
-        ∷ []) ∷  -- N1
+    ∷ []) ∷  -- N1
     normalizing (row_of (num 0) (num 0) (-num 5) ∷ row_of (num (10 ^ 200)) (num 0) (num 1) ∷ []) (zeros ∷ zeros ∷ []) ∷  -- N2
     crossing_of (row_of (num 1) (num 2) (num 5)) (row_of (num 3) (num 4) (num 6)) (at 0xc010_0000_0000_0000 0x4012_0000_0000_0000) ∷  -- D1
     crossing_of (row_of (num 1) (num 2) (num 5)) (row_of (num 2) (num 4) (num 6)) (crossing_is.Refused 5) ∷  -- D2
@@ -141,7 +141,7 @@ a ⊹ b = (a, b)
 pub examples_hold : All examples
 unfolding
     when◌then◌else◌ zero one abs finite negative ◌⋖◌ min max clamp root root_units whole_root fused product pure read ◌>>=◌ ◌>>◌ eps_zero
-        eps_normalize eps_rounding
+    eps_normalize eps_rounding
     ccw_errbound_a lp_bound lp_box_growth half repair_tol_scale zeros rows_of flat_of row_at refusal residual weight no_boundary normalized_by normalized_row
     normalized determinant singular crossing no_rows set_first set_second whole_line void coefficient_is_zero narrow meeting lp1d_core on_y on_x
     on_line pairs_of

@@ -135,8 +135,12 @@ unfolding lt float.zero of_bits
 not_above_lem nan h = none
 not_above_lem (inf s) h = infinite (not-false s h)
 not_above_lem (fin true m e) h = finite (λ _. refl)
-not_above_lem (fin false m e) h = finite (λ (p : 0 < m). absurd (omega (arith, ltb-false (0 * down e) (m * up e * 1) h, zero-mul (down e),
-    mul-pos p (up_pos e))))
+not_above_lem (fin false m e) h = finite (λ (p : 0 < m). absurd (omega (
+  arith,
+  ltb-false (0 * down e) (m * up e * 1) h,
+  zero-mul (down e),
+  mul-pos p (up_pos e),
+)))
 
 never_above : {x : Float} → Sign true x → lt float.zero x ≡ false
 unfolding lt float.zero of_bits

@@ -1,6 +1,6 @@
 -- The digits of a square root, one a turn. The invariant, with k turns to go and G = 2 ^ k: s is twice the digits found so far, t is s + G,
 -- and ix is what w * 2 ^ 56 is more than s * s, in units of 4 * G.
-use Rattle.std.proofs.Common.{◌≡◌, ℕ, suc, ◌+◌, ◌-◌, ◌*◌, ◌/◌, ◌%◌, ◌^◌, ◌<◌, ◌≤◌, ◌⊎◌, ap, ◌∙◌, inl, inr, arith, pow_pos}
+use Rattle.std.proofs.Common.{◌≡◌, ℕ, suc, ◌+◌, ◌-◌, ◌*◌, ◌/◌, ◌%◌, ◌^◌, ◌<◌, ◌≤◌, ◌⊎◌, ap, ◌∙◌, inl, inr, arith}
 use Rattle.rounding.proofs.Roots.{IsRoot, even_square}
 
 pub record Holds (w ix t h g i k G s : ℕ) : Type 0 where

@@ -1,13 +1,13 @@
 -- The exact product of two floats and its sum with a third, by the values of the three.
 use Rattle.std.proofs.Common.{◌≡◌, ℕ, suc, ◌+◌, ◌-◌, ◌*◌, ◌/◌, ◌%◌, ◌^◌, ◌<◌, ◌≤◌, Bool, true, false, cond, not, T, ltb, ℤ, pos, negsuc, ◌+ℤ◌, sym, ap, ◌∙◌}
-use Rattle.std.proofs.Common.{ap₂, lt_of_le_of_lt, add-zero, le_of_lt, mul-le-mul_right, mul-le-mul, mul-le-mul_left, mul-lt-mul_of_pos_right, mul-pos, arith}
-use Rattle.std.proofs.Common.{ltb→lt, nltb→le, pow_pos, pow-add, shl_lt}
+use Rattle.std.proofs.Common.{ap₂, lt_of_le_of_lt, add-zero, le_of_lt, mul-le-mul, mul-le-mul_left, mul-lt-mul_of_pos_right, mul-pos, arith}
+use Rattle.std.proofs.Common.{ltb→lt, nltb→le, pow_pos, pow-add}
 use native.Mathlib.Nat.{eq_of_mul-eq-mul_right, mul-mul-mul_comm}
 use lib.IntN.{sub_ℕ}
 use lib.Ieee.{Float, nan, inf, fin, binary64, up, down, unlike, sum, add}
 use lib.Ieee.Fits.{down_pos}
 use lib.Ieee.Exact.{HasValue}
-use Rattle.rounding.specs.Near.{signed, Taken, Multiplied, Raised, Fuses}
+use Rattle.rounding.specs.Near.{signed, Taken, Multiplied, Fuses}
 use Rattle.rounding.specs.Fused.{product, fused}
 use Rattle.rounding.proofs.Shifts.{pow_same}
 use Rattle.rounding.proofs.Sums.{sum_same}

@@ -1,10 +1,8 @@
 -- sig * 2 ^ e / 2 ^ 2336, with the top bit of sig's 64 set, rounded: eleven digits are dropped, or more for a subnormal.
-use Rattle.std.proofs.Common.{◌≡◌, ℕ, ◌+◌, ◌-◌, ◌*◌, ◌/◌, ◌%◌, ◌^◌, ◌<◌, ◌≤◌, Bool, sym, refl, ap, ◌∙◌, inl, inr, le_trans, mul-pos, le-div_iff_mul-le, arith}
-use Rattle.std.proofs.Common.{lit<, pow_pos, pow-add, shr_lt}
-use Prim.Native.Nat.{compare}
+use Rattle.std.proofs.Common.{◌≡◌, ℕ, ◌+◌, ◌-◌, ◌*◌, ◌^◌, ◌<◌, ◌≤◌, Bool, sym, refl, ap, ◌∙◌, inl, inr, mul-pos, arith}
+use Rattle.std.proofs.Common.{lit<, pow_pos, pow-add}
 use lib.Ieee.{binary64, units, round}
-use lib.Ieee.Fits.{nearest-le}
-use lib.Ieee.Nearest.{closest, closest_same, nearest-ge}
+use lib.Ieee.Nearest.{closest, closest_same}
 use Rattle.rounding.specs.Near.{Sticky}
 use Rattle.rounding.proofs.Powers.{one_shift, three_shifts, shift_under, shift_over}
 use Rattle.rounding.proofs.Sticky.{Window, round_at, closest_sticky}

@@ -1,6 +1,6 @@
 -- Shifts and masks of words, as the program takes them, and `Sticky`.
-use Rattle.std.proofs.Common.{◌≡◌, ℕ, ◌+◌, ◌-◌, ◌*◌, ◌/◌, ◌%◌, ◌^◌, ◌<◌, ◌≤◌, sym, refl, ap, ◌∙◌, inl, inr, lt_of_lt_of_le, lt_of_le_of_lt, mul-le-mul_right}
-use Rattle.std.proofs.Common.{mod-eq_of_lt, zero-mul, div-mul-le_self, arith, pow_pos, pow_mono, pow-add}
+use Rattle.std.proofs.Common.{◌≡◌, ℕ, ◌+◌, ◌-◌, ◌*◌, ◌/◌, ◌%◌, ◌^◌, ◌<◌, ◌≤◌, sym, refl, ap, ◌∙◌, inr, lt_of_lt_of_le, lt_of_le_of_lt, mul-le-mul_right}
+use Rattle.std.proofs.Common.{mod-eq_of_lt, div-mul-le_self, arith, pow_pos, pow_mono, pow-add}
 use native.Mathlib.Nat.{lt-div-mul-add}
 use lib.Arith.{lt_of_le-ne}
 use lib.Bits.{bit_or, or_step, or_zero_r}

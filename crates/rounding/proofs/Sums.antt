@@ -1,10 +1,10 @@
 -- The sum of two numbers with signs, one of which may be a sticky number that stands for it.
 use Rattle.std.proofs.Common.{◌≡◌, ℕ, suc, ◌+◌, ◌-◌, ◌*◌, ◌/◌, ◌%◌, ◌^◌, ◌<◌, ◌≤◌, Bool, true, false, cond, ◌&&◌, ltb, ◌⊎◌, sym, refl, ap, ◌∙◌, ap₂, inl, inr}
 use Rattle.std.proofs.Common.{le_trans, lt_of_lt_of_le, le_of_lt, mul-le-mul_right, mul_assoc, mul_comm, add-mul, add_comm, le_antisymm}
-use Rattle.std.proofs.Common.{lt_of_mul-lt-mul_right, mul-le-mul_left, mul-lt-mul_of_pos_right, div-add-mod', le-mul_of_pos_right, arith, lit<, lit≤, pow_pos}
+use Rattle.std.proofs.Common.{lt_of_mul-lt-mul_right, mul-le-mul_left, mul-lt-mul_of_pos_right, div-add-mod', le-mul_of_pos_right, arith, lit≤, pow_pos}
 use Rattle.std.proofs.Common.{pow_mono, ltb-false, ltb-true, le-ltb, lt-ltb}
 use mathlib.Core.Bool.{beq}
-use native.Mathlib.Nat.{add-lt-add_of_lt_of_le, mul-sub}
+use native.Mathlib.Nat.{mul-sub}
 use lib.Ieee.{Format, binary64, round, sum, of_bits}
 use lib.Ieee.Positive.{first_pos}
 use lib.Ieee.Scale.{round_same}

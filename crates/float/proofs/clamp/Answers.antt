@@ -8,7 +8,7 @@ pub returns-then-high-raised : goal.returns-then-high-raised
 unfolding clamp when◌then◌else◌
 returns-then-high-raised c =
     elim c.if-x-low.branch [
-      then-x-low w ↦ simp (w.if-x-low.true, ← w.raised-is, c.if-high-raised.true)
+      | then-x-low w ↦ simp (w.if-x-low.true, ← w.raised-is, c.if-high-raised.true)
       | else-x-low w ↦ simp (w.if-x-low.false, ← w.raised-is, c.if-high-raised.true)
     ]
 
@@ -16,6 +16,6 @@ pub returns-else-high-raised : goal.returns-else-high-raised
 unfolding clamp when◌then◌else◌
 returns-else-high-raised c =
     elim c.if-x-low.branch [
-      then-x-low w ↦ simp (w.if-x-low.true, ← w.raised-is, c.if-high-raised.false)
+      | then-x-low w ↦ simp (w.if-x-low.true, ← w.raised-is, c.if-high-raised.false)
       | else-x-low w ↦ simp (w.if-x-low.false, ← w.raised-is, c.if-high-raised.false)
     ]

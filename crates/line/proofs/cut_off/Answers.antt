@@ -17,7 +17,7 @@ pub returns-then-up-2 : goal.returns-then-up-2
 unfolding cut_off when◌then◌else◌ zero
 returns-then-up-2 c =
     elim c.if-up.branch [
-      then-up w ↦ rw (← c.coefficient_is_zero.ensures, c.if-coefficient_is_zero.false, c.if-up-2.true, ← w.edge-is, c.if-t-edge.true)
+      | then-up w ↦ rw (← c.coefficient_is_zero.ensures, c.if-coefficient_is_zero.false, c.if-up-2.true, ← w.edge-is, c.if-t-edge.true)
       | else-up w ↦ cc
     ]
 
@@ -25,7 +25,7 @@ pub returns-then-t-edge : goal.returns-then-t-edge
 unfolding cut_off when◌then◌else◌ zero
 returns-then-t-edge c =
     elim c.if-up.branch [
-      then-up w ↦ cc
+      | then-up w ↦ cc
       | else-up w ↦ rw (← c.coefficient_is_zero.ensures, c.if-coefficient_is_zero.false, c.if-up-2.false, ← w.edge-is, c.if-t-edge.true)
     ]
 
@@ -33,6 +33,6 @@ pub returns : goal.returns
 unfolding cut_off when◌then◌else◌ zero
 returns c =
     elim c.if-up.branch [
-      then-up w ↦ rw (← c.coefficient_is_zero.ensures, c.if-coefficient_is_zero.false, w.if-up.true, ← w.edge-is, c.if-t-edge.false)
+      | then-up w ↦ rw (← c.coefficient_is_zero.ensures, c.if-coefficient_is_zero.false, w.if-up.true, ← w.edge-is, c.if-t-edge.false)
       | else-up w ↦ rw (← c.coefficient_is_zero.ensures, c.if-coefficient_is_zero.false, w.if-up.false, ← w.edge-is, c.if-t-edge.false)
     ]

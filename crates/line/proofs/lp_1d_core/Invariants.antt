@@ -14,9 +14,9 @@ abbrev pub invariant-loop-k : goal.invariant-loop-k
 invariant-loop-k l =
     (l.k ≤ l.upto)
     × (within l.rest (lp1d_core l.steep true l.eps (map (on_line l.steep l.p l.q) (drop l.k (take l.upto (rows_of l.rows)))) l.k
-        (span l.high l.low l.first l.second))
+    (span l.high l.low l.first l.second))
     ≡ within l.initial.rest (lp1d_core l.steep true l.eps (map (on_line l.steep l.p l.q) (take l.upto (rows_of l.rows))) 0
-        (span l.initial.high l.initial.low l.initial.first l.initial.second)))
+    (span l.initial.high l.initial.low l.initial.first l.initial.second)))
 
 abbrev pub decreases-loop-k : goal.decreases-loop-k
 decreases-loop-k l = l.upto - l.k

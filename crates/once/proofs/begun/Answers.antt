@@ -13,6 +13,6 @@ pub returns : goal.returns
 unfolding begun when◌then◌else◌ lp_bound
 returns c =
     rw (← c.settled-level.ensures) (elim c.else-level.branch [
-      else-level-via-then-level+else-bound w ↦ rw (w.if-level.true, w.if-bound.false)
+      | else-level-via-then-level+else-bound w ↦ rw (w.if-level.true, w.if-bound.false)
       | else-level-via-else-level w ↦ rw w.if-level.false
     ])

@@ -8,13 +8,20 @@ pub returns-then-u : goal.returns-then-u
 unfolding factors zero
 returns-then-u c =
     elim c.if-is_finite-2.branch [
-      then-is_finite-2 v ↦
-        elim c.if-is_finite.branch [
-          then-is_finite w ↦
-            rw (← c.is_finite.ensures, w.if-is_finite.true, ← w.is_finite-then-is_finite.ensures, ← w.value-is, v.if-is_finite-2.true, ← v.value-is,
-                c.if-u.true)
-          | else-is_finite w ↦ cc
-        ]
+      | then-is_finite-2 v ↦
+          elim c.if-is_finite.branch [
+            | then-is_finite w ↦
+                rw (
+                  ← c.is_finite.ensures,
+                  w.if-is_finite.true,
+                  ← w.is_finite-then-is_finite.ensures,
+                  ← w.value-is,
+                  v.if-is_finite-2.true,
+                  ← v.value-is,
+                  c.if-u.true,
+                )
+            | else-is_finite w ↦ cc
+          ]
       | else-is_finite-2 v ↦ cc
     ]
 
@@ -22,17 +29,24 @@ pub returns-else-u : goal.returns-else-u
 unfolding factors zero
 returns-else-u c =
     elim c.if-is_finite-2.branch [
-      then-is_finite-2 v ↦
-        elim c.if-is_finite.branch [
-          then-is_finite w ↦
-            rw (← c.is_finite.ensures, w.if-is_finite.true, ← w.is_finite-then-is_finite.ensures, ← w.value-is, v.if-is_finite-2.true, ← v.value-is,
-                c.if-u.false)
-          | else-is_finite w ↦ cc
-        ]
+      | then-is_finite-2 v ↦
+          elim c.if-is_finite.branch [
+            | then-is_finite w ↦
+                rw (
+                  ← c.is_finite.ensures,
+                  w.if-is_finite.true,
+                  ← w.is_finite-then-is_finite.ensures,
+                  ← w.value-is,
+                  v.if-is_finite-2.true,
+                  ← v.value-is,
+                  c.if-u.false,
+                )
+            | else-is_finite w ↦ cc
+          ]
       | else-is_finite-2 v ↦
-        elim c.if-is_finite.branch [
-          then-is_finite w ↦
-            rw (← c.is_finite.ensures, w.if-is_finite.true, ← w.is_finite-then-is_finite.ensures, ← w.value-is, v.if-is_finite-2.false, c.if-u.false)
-          | else-is_finite w ↦ rw (← c.is_finite.ensures, w.if-is_finite.false, c.if-u.false)
-        ]
+          elim c.if-is_finite.branch [
+            | then-is_finite w ↦
+                rw (← c.is_finite.ensures, w.if-is_finite.true, ← w.is_finite-then-is_finite.ensures, ← w.value-is, v.if-is_finite-2.false, c.if-u.false)
+            | else-is_finite w ↦ rw (← c.is_finite.ensures, w.if-is_finite.false, c.if-u.false)
+          ]
     ]

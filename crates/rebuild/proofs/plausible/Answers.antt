@@ -18,8 +18,12 @@ returns-then-not-is_finite c =
       | then-not-is_finite-via-else-not-is_finite+else-not-is_finite-2+then-p-floor w ↦
           rw (holds finite-x w.if-not-is_finite.false, holds w.is_finite-else-not-is_finite.ensures w.if-not-is_finite-2.false, w.if-p-floor.true)
       | then-not-is_finite-via-else-not-is_finite+else-not-is_finite-2+else-p-floor+then-p-top w ↦
-          rw (holds finite-x w.if-not-is_finite.false, holds w.is_finite-else-not-is_finite.ensures w.if-not-is_finite-2.false, w.if-p-floor.false,
-              w.if-p-top.true)
+          rw (
+            holds finite-x w.if-not-is_finite.false,
+            holds w.is_finite-else-not-is_finite.ensures w.if-not-is_finite-2.false,
+            w.if-p-floor.false,
+            w.if-p-top.true,
+          )
     ]
 
 pub returns : goal.returns

@@ -32,7 +32,7 @@ returns-then-ay-eq9218868437227405312 c =
 pub returns-then-az-eq9218868437227405312 : goal.returns-then-az-eq9218868437227405312
 returns-then-az-eq9218868437227405312 c =
     z_inf _ _ _ _ (finite _ c.if-x.false c.if-ax-eq9218868437227405312.false) (finite _ c.if-y.false c.if-ay-eq9218868437227405312.false)
-        (at_inf _ (yes c.well_formed.1.1.0.1) c.if-az-eq9218868437227405312.true)
+    (at_inf _ (yes c.well_formed.1.1.0.1) c.if-az-eq9218868437227405312.true)
 
 pub returns-then-ax-eq0 : goal.returns-then-ax-eq0
 returns-then-ax-eq0 c =
@@ -47,7 +47,7 @@ returns-then-ay-eq0 c =
 pub returns-then-az-eq0 : goal.returns-then-az-eq0
 returns-then-az-eq0 c =
     z_zero _ _ _ _ (finite _ c.if-x.false c.if-ax-eq9218868437227405312.false) (finite _ c.if-y.false c.if-ay-eq9218868437227405312.false)
-        c.if-ax-eq0.false c.if-ay-eq0.false
+    c.if-ax-eq0.false c.if-ay-eq0.false
     (at_zero _ (yes c.well_formed.1.1.0.1) c.if-az-eq0.true)
 
 pub fused_parts-requires : goal.fused_parts-requires

@@ -16,14 +16,14 @@ loop-i-preserved c =
           c.wrapping_sub_u64-d.ensures.value
           (elim c.if-t-ix.branch [ then-t-ix w ↦ inl (w.if-t-ix.true, w.t-is) | else-t-ix w ↦ inr (w.if-t-ix.false, w.t-is) ])
           (elim c.if-d-lt9223372036854775808.branch [
-            then-d-lt9223372036854775808 w ↦ inl (w.if-d-lt9223372036854775808.true, w.ix-is)
+            | then-d-lt9223372036854775808 w ↦ inl (w.if-d-lt9223372036854775808.true, w.ix-is)
             | else-d-lt9223372036854775808 w ↦ inr (w.if-d-lt9223372036854775808.false, w.ix-is)
           ]),
       again l.invariant.1 k c.if-u-jx.u c.if-c-lt9223372036854775808.jx c.wrapping_sub_u64-c.result c.wrapping_sub_u64-c.type_inv
           c.wrapping_sub_u64-c.ensures.value
           (elim c.if-u-jx.branch [ then-u-jx w ↦ inl (w.if-u-jx.true, w.u-is) | else-u-jx w ↦ inr (w.if-u-jx.false, w.u-is) ])
           (elim c.if-c-lt9223372036854775808.branch [
-            then-c-lt9223372036854775808 w ↦ inl (w.if-c-lt9223372036854775808.true, w.jx-is)
+            | then-c-lt9223372036854775808 w ↦ inl (w.if-c-lt9223372036854775808.true, w.jx-is)
             | else-c-lt9223372036854775808 w ↦ inr (w.if-c-lt9223372036854775808.false, w.jx-is)
           ]),
     )
@@ -33,7 +33,7 @@ returns-then-u-jx-2-clause-a_bound c =
     let l = c.loop-i in
     let k = c.loop-i-test.false in
     out l.invariant.0 k c.if-t-ix-2.a (elim c.if-t-ix-2.branch [
-      then-t-ix-2 w ↦ inl (w.if-t-ix-2.true, w.a-is)
+      | then-t-ix-2 w ↦ inl (w.if-t-ix-2.true, w.a-is)
       | else-t-ix-2 w ↦ inr (w.if-t-ix-2.false, w.a-is)
     ])
 
@@ -48,7 +48,7 @@ returns-else-u-jx-2-clause-a_bound c =
     let l = c.loop-i in
     let k = c.loop-i-test.false in
     out l.invariant.0 k c.if-t-ix-2.a (elim c.if-t-ix-2.branch [
-      then-t-ix-2 w ↦ inl (w.if-t-ix-2.true, w.a-is)
+      | then-t-ix-2 w ↦ inl (w.if-t-ix-2.true, w.a-is)
       | else-t-ix-2 w ↦ inr (w.if-t-ix-2.false, w.a-is)
     ])
 

@@ -12,10 +12,10 @@ loop-i-preserved c =
     again c.loop-i.invariant c.loop-i-test.true c.if-t-ix.t c.if-d-lt9223372036854775808.ix c.wrapping_sub_u64-d.result
     c.wrapping_sub_u64-d.type_inv c.wrapping_sub_u64-d.ensures.value
     (elim c.if-t-ix.branch [
-      then-t-ix w ↦ inl (w.if-t-ix.true, w.t-is)
+      | then-t-ix w ↦ inl (w.if-t-ix.true, w.t-is)
       | else-t-ix w ↦ inr (w.if-t-ix.false, w.t-is)
     ]) (elim c.if-d-lt9223372036854775808.branch [
-      then-d-lt9223372036854775808 w ↦ inl (w.if-d-lt9223372036854775808.true, w.ix-is)
+      | then-d-lt9223372036854775808 w ↦ inl (w.if-d-lt9223372036854775808.true, w.ix-is)
       | else-d-lt9223372036854775808 w ↦ inr (w.if-d-lt9223372036854775808.false, w.ix-is)
     ])
 
