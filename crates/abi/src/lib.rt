@@ -1,16 +1,18 @@
-// What crosses to C: records by value, each with a value in every field for every input, and what the entries make of them.
+// What crosses to C: records by value, each with a value in every field for every input, and what the entries make of them. C has
+// no `Option` and no `Result`: a refusal, a kind and a mode are numbers here, and a row is a number with a flag beside it.
 #![tactic(auto)]
 
 ghost use Rattle.std.specs.Prelude.{◌≡◌, ◌*◌};
+ghost use Rattle.rows.specs.Refusals.{code};
 ghost use Rattle.rows.specs.Rows.{refusal};
 ghost use Rattle.abi.specs.Records.{slot, has_row, row_number, answered, refused, with_rows, unsolved, solved, source, recovered_at};
 ghost use Rattle.abi.specs.Entries.{task, no_mode, or_ten, refusal_of, collector};
 
-use active::{Active, Slot};
+use active::Active;
 use line::Tolerances;
 use once::{Normalize, Task, WarmStart};
-use rows::Point;
-use solve::{Answer, Outcome, Solution};
+use rows::{Point, Refusal};
+use solve::{Answer, Outcome, Unsolved};
 
 // What to solve, and how; `normalize` is 0 for not normalising, 1 for the source's, and no other number names a mode.
 #[repr(C)]
@@ -108,31 +110,22 @@ pub struct RecoveredPoint {
 
 // ---- a row or no row, as a flag and a number
 
-pub fn slot_of(held: bool, row: usize) -> Slot
+pub fn slot_of(held: bool, row: usize) -> Option<usize>
     ensures { result ≡ slot held row }
 {
-    if held {
-        return Slot::Holds(row);
-    }
-    Slot::NoRow
+    held.then_some(row)
 }
 
-pub fn has_row(found: Slot) -> bool
+pub fn has_row(found: Option<usize>) -> bool
     ensures { result ≡ has_row found }
 {
-    match found {
-        Slot::NoRow => false,
-        Slot::Holds(_) => true,
-    }
+    found.is_some()
 }
 
-pub fn row_number(found: Slot) -> usize
+pub fn row_number(found: Option<usize>) -> usize
     ensures { result ≡ row_number found }
 {
-    match found {
-        Slot::NoRow => 0,
-        Slot::Holds(k) => k,
-    }
+    found.unwrap_or(0)
 }
 
 // ---- a solve's task
@@ -167,23 +160,30 @@ pub fn no_mode(number: u64) -> bool
 }
 
 // A refusal; where there is none, 10 for a number that names no mode.
-pub fn or_ten(number: u64, mode: u64) -> u64
-    ensures { result ≡ or_ten number mode }
+pub fn or_ten(refusal: Option<Refusal>, mode: u64) -> Option<Refusal>
+    ensures { result ≡ or_ten refusal mode }
 {
-    if number != 0 {
-        return number;
+    match refusal {
+        None if no_mode(mode) => Some(Refusal::Malformed),
+        _ => refusal,
     }
-    if no_mode(mode) {
-        return 10;
-    }
-    0
 }
 
-// Which refusal a solve's input gets before a row is read, and 0 where it gets none.
-pub fn refusal_of(rows: &[f64], t: SolveTask) -> u64
+// Which refusal a solve's input gets before a row is read.
+pub fn refusal_of(rows: &[f64], t: SolveTask) -> Option<Refusal>
     ensures { result ≡ refusal_of t rows.now }
 {
     or_ten(solve::refusal_of(rows, task_of(t)), t.normalize)
+}
+
+// The number of a refusal, 0 where there is none.
+pub fn number_of(refusal: Option<Refusal>) -> u64
+    ensures { result ≡ code refusal }
+{
+    match refusal {
+        None => 0,
+        Some(refusal) => u64::from(refusal),
+    }
 }
 
 // ---- what a solve answers
@@ -236,18 +236,16 @@ pub fn refused(number: u64) -> SourceSolved
 pub fn with_rows(s: SourceSolved, count: u64, act: Active) -> Solved
     ensures { result ≡ with_rows s count act }
 {
-    let one = act.first;
-    let other = act.second;
     Solved {
         refusal: s.refusal,
         kind: s.kind,
         x: s.x,
         y: s.y,
         count: count,
-        first: row_number(one),
-        second: row_number(other),
-        has_first: has_row(one),
-        has_second: has_row(other),
+        first: row_number(act.first),
+        second: row_number(act.second),
+        has_first: has_row(act.first),
+        has_second: has_row(act.second),
     }
 }
 
@@ -263,29 +261,29 @@ pub fn solved_of(got: Outcome) -> Solved
     ensures { result ≡ solved got }
 {
     match got {
-        Outcome::Answered(a, act, n) => with_rows(answered(a), n, act),
-        Outcome::Stopped(n) => unsolved(3, n),
-        Outcome::Refused(number) => unsolved(number, 0),
+        Ok(solved) => with_rows(answered(solved.answer), solved.count, solved.active),
+        Err(Unsolved::Stopped(count)) => unsolved(3, count),
+        Err(Unsolved::Refused(refusal)) => unsolved(u64::from(refusal), 0),
     }
 }
 
-pub fn source_of(got: Solution) -> SourceSolved
+pub fn source_of(got: Result<Answer, Unsolved>) -> SourceSolved
     ensures { result ≡ source got }
 {
     match got {
-        Solution::Answered(a) => answered(a),
-        Solution::Refused(number) => refused(number),
+        Ok(answer) => answered(answer),
+        Err(why) => refused(u64::from(why)),
     }
 }
 
 // Of n rows that are records, which always come out even.
 pub fn unsolved_rows(n: usize, mode: u64) -> Solved
-    ensures { result ≡ unsolved (or_ten (refusal 3 (3 * n)) mode) 0 }
+    ensures { result ≡ unsolved (code (or_ten (refusal 3 (3 * n)) mode)) 0 }
 {
     if n > rows::MOST_ROWS {
         return unsolved(2, 0);
     }
-    unsolved(or_ten(0, mode), 0)
+    unsolved(number_of(or_ten(None, mode)), 0)
 }
 
 // ---- recovery
@@ -294,26 +292,22 @@ pub fn unsolved_rows(n: usize, mode: u64) -> Solved
 pub fn collector_of(t: RecoveryTask) -> Active
     ensures { result ≡ collector t }
 {
-    let one = slot_of(t.has_first, t.first);
-    let other = slot_of(t.has_second, t.second);
     Active {
-        first: one,
-        second: other,
+        first: slot_of(t.has_first, t.first),
+        second: slot_of(t.has_second, t.second),
     }
 }
 
 pub fn recovered_at(number: u64, p: Point, act: Active) -> RecoveredPoint
     ensures { result ≡ recovered_at number p act }
 {
-    let one = act.first;
-    let other = act.second;
     RecoveredPoint {
         refusal: number,
         x: p.x,
         y: p.y,
-        first: row_number(one),
-        second: row_number(other),
-        has_first: has_row(one),
-        has_second: has_row(other),
+        first: row_number(act.first),
+        second: row_number(act.second),
+        has_first: has_row(act.first),
+        has_second: has_row(act.second),
     }
 }

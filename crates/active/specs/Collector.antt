@@ -1,13 +1,12 @@
--- A caller's collector, above the step: what it begins with, and what it holds after a call. Assumes nothing.
+-- A caller's collector, above the step: what it begins with, and what it holds after a call. One that is off stays off.
+use Rattle.std.specs.Prelude.{Option, Some, None}
 use Rattle.active.specs.declared.Active.{Active}
 use Rattle.active.specs.Active.{no_rows}
-use Rattle.active.specs.declared.Collector.{Collector}
-use Rattle.active.specs.declared.Collector.TheVariants.{Off, On}
 
-unfoldable pub held : Collector → Active
-held Off = no_rows
-held (On act) = act
+unfoldable pub held : Option Active → Active
+held None = no_rows
+held (Some act) = act
 
-unfoldable pub collected : Collector → Active → Collector
-collected Off found = Off
-collected (On act) found = On found
+unfoldable pub collected : Option Active → Active → Option Active
+collected None found = None
+collected (Some act) found = Some found

@@ -8,17 +8,10 @@ ghost use Rattle.by_value.specs.ByValue.{kept, answered, remains, few_rows, too_
 use active::Active;
 use recover::Recovered;
 use rows::Point;
-use solve::Outcome;
+use solve::{Outcome, Unsolved};
 
 // The most rows that go by way of the small array, which costs little to make.
 pub const FEW: usize = 64;
-
-// What `recover_collecting` answers: a point, or a refusal by its number.
-#[derive(Clone, Copy)]
-pub enum Recovery {
-    At(Point),
-    Refused(u64),
-}
 
 // ---- the collector
 
@@ -44,43 +37,43 @@ pub fn with_second(k: usize, act: Active) -> Active
 pub fn kept(outcome: Outcome, act: Active) -> Active
     ensures { result ≡ kept act outcome }
 {
-    let none = active::no_rows();
     match outcome {
-        Outcome::Answered(_, found, _) => found,
-        Outcome::Stopped(_) => none,
-        Outcome::Refused(_) => act,
+        Ok(solved) => solved.active,
+        Err(Unsolved::Stopped(_)) => active::no_rows(),
+        Err(Unsolved::Refused(_)) => act,
     }
 }
 
 // ---- recovery
 
 // What the caller is told.
-pub fn answered(r: Recovered) -> Recovery
+pub fn answered(r: Result<Recovered, rows::Refusal>) -> Result<Point, rows::Refusal>
     ensures { result ≡ answered r }
 {
-    match r {
-        Recovered::At(p, _) => Recovery::At(p),
-        Recovered::Refused(number) => Recovery::Refused(number),
-    }
+    Ok(r?.at)
 }
 
 // What a collector holds after a recovery.
-pub fn remains(r: Recovered, act: Active) -> Active
+pub fn remains(r: Result<Recovered, rows::Refusal>, act: Active) -> Active
     ensures { result ≡ remains act r }
 {
     match r {
-        Recovered::At(_, coll) => active::held(coll),
-        Recovered::Refused(_) => act,
+        Ok(recovered) => active::held(recovered.collector),
+        Err(_) => act,
     }
 }
 
 // ---- rows that are records
 
-// The refusal of so many rows, by its number; 0 where they are taken.
-pub fn refusal(n: usize) -> u64
+// The refusal of so many rows.
+pub fn refusal(n: usize) -> Option<rows::Refusal>
     ensures { result ≡ too_many n }
 {
-    if n > rows::MOST_ROWS { 2 } else { 0 }
+    if n > rows::MOST_ROWS {
+        Some(rows::Refusal::TooMany)
+    } else {
+        None
+    }
 }
 
 // Whether so many rows go by way of the small array.

@@ -1,6 +1,7 @@
 -- The three demands, and what RULES says besides of answers and constants, in the terms of the entries' contracts: `solve` gives back `solve T A flat` of the
 -- task T, the allowance A and the floats lent, and `lp_2d_incre_max_y` gives back `lp2d_incre_max_y T flat`. That an entry returns for every input is that its
 -- contract has no `requires`.
+use Rattle.std.specs.Prelude.{Some, None, Err}
 use mathlib.Core.Path.{◌≡◌, ap, ◌∙◌}
 use mathlib.Core.Logic.{◌⊎◌, ◌↔◌, ◌≢◌}
 use mathlib.Core.Bool.{Bool, true, false, ◌&&◌}
@@ -13,19 +14,21 @@ use lib.Ieee.{Float, nan, inf, is_nan}
 use Rattle.float.specs.Operators.{◌⊘◌, ◌≺◌, ◌≻◌}
 use Rattle.float.specs.Float.{abs}
 use Rattle.rows.specs.Constants.{eps_zero, most_rows}
+use Rattle.rows.specs.declared.Refusal.{Refusal}
+use Rattle.rows.specs.declared.Refusal.TheVariants.{Uneven, TooMany}
 use Rattle.rows.specs.Rows.{rows_of, flat_of}
+use Rattle.rows.proofs.Refusals.{number_1, number_2}
 use Rattle.rows.proofs.Lengths.{length-rows_of}
-use Rattle.active.specs.declared.Slot.TheVariants.{Holds}
 use Rattle.active.specs.declared.Active.{Active}
 use Rattle.active.specs.Active.{no_rows}
 use Rattle.step.specs.declared.State.{State}
-use Rattle.step.specs.declared.Found.TheVariants.{Done}
 use Rattle.once.specs.declared.Normalize.TheVariants.{Off}
 use Rattle.once.specs.declared.Task.{Task}
 use Rattle.solve.specs.declared.Answer.{Answer}
 use Rattle.solve.specs.declared.Answer.TheVariants.{Point, Level, Across, Nothing}
-use Rattle.solve.specs.declared.Outcome.TheVariants.{Answered, Stopped, Refused}
-use Rattle.solve.specs.Solve.{Solves, all_solves, last_of, count, rows_within, answer, Ended, refusal_of, solve, lp2d_incre_max_y, number, values}
+use Rattle.solve.specs.declared.Unsolved.TheVariants.{Stopped, Refused}
+use Rattle.solve.specs.Solve.{Answered, Solves, all_solves, last_of, count, rows_within, answer, Ended, refusal_of, solve, lp2d_incre_max_y}
+use Rattle.solve.specs.Solve.{number, values}
 use Rattle.solve.proofs.Refusals as refusals
 use Rattle.solve.proofs.Allowance as allowance
 use Rattle.solve.proofs.Growing.{rounds}
@@ -51,31 +54,31 @@ module _ (T : Task) (flat : List Float) where
   -- ---- 1. "Every entry answers for every input: any floats, any skip, any lengths." "Refusals are numbered; each says what it returns and what it leaves."
 
   -- an input that comes out even and is not too many rows is taken
-  pub takes : refusal_of T flat ≡ 0 ↔ (length flat % 3 ≡ 0) × (lent ≤ most_rows)
+  pub takes : refusal_of T flat ≡ None ↔ (length flat % 3 ≡ 0) × (lent ≤ most_rows)
   takes = refusals.refusal_0 T flat
 
   -- refusal 1, where the floats are not a multiple of 3, and 2, above 4,096 rows
   pub refuses_1 : (A : ℕ) → number (solve T A flat).outcome ≡ 1 ↔ length flat % 3 ≢ 0
   refuses_1 A =
-      let exactly = allowance.solve_refuses_exactly T flat A 1 (omega arith) (omega arith) in
+      let exactly = allowance.solve_refuses_exactly T flat A Uneven (omega arith) number_1 in
       let when = refusals.refusal_1 T flat in
       (λ e. when.0 (exactly.0 e), λ h. exactly.1 (when.1 h))
 
   pub refuses_2 : (A : ℕ) → number (solve T A flat).outcome ≡ 2 ↔ (length flat % 3 ≡ 0) × (most_rows < lent)
   refuses_2 A =
-      let exactly = allowance.solve_refuses_exactly T flat A 2 (omega arith) (omega arith) in
+      let exactly = allowance.solve_refuses_exactly T flat A TooMany (omega arith) number_2 in
       let when = refusals.refusal_2 T flat in
       (λ e. when.0 (exactly.0 e), λ h. exactly.1 (when.1 h))
 
   -- either gives its number, and leaves the floats as they were; so does the entry with no allowance
-  pub refuses : (A : ℕ) → refusal_of T flat ≢ 0 → solve T A flat ≡ record { outcome = Refused (refusal_of T flat); rows = flat }
+  pub refuses : (A : ℕ) {why : Refusal} → refusal_of T flat ≡ Some why → solve T A flat ≡ record { outcome = Err (Refused why); rows = flat }
   refuses = allowance.solve_refuses T flat
 
-  pub refuses_alike : refusal_of T flat ≢ 0 → lp2d_incre_max_y T flat ≡ record { outcome = Refused (refusal_of T flat); rows = flat }
+  pub refuses_alike : {why : Refusal} → refusal_of T flat ≡ Some why → lp2d_incre_max_y T flat ≡ record { outcome = Err (Refused why); rows = flat }
   refuses_alike = allowance.lp2d_incre_max_y_refuses T flat
 
   -- every other input has an answer, which that entry always gives
-  pub answers : refusal_of T flat ≡ 0 → (a : Answer) × (act : Active) × ((lp2d_incre_max_y T flat).outcome ≡ Answered a act taken)
+  pub answers : refusal_of T flat ≡ None → (a : Answer) × (act : Active) × ((lp2d_incre_max_y T flat).outcome ≡ Answered a act taken)
   answers = allowance.lp2d_incre_max_y_answers T flat
 
   -- so a solve answers, with the count of all its solves, or gives 1, 2 or 3, and no other number; and that entry 1 or 2
@@ -103,10 +106,10 @@ module _ (T : Task) (flat : List Float) where
 
   module _ (A : ℕ) {a : Answer} {act : Active} {n : ℕ} (e : (solve T A flat).outcome ≡ Answered a act n) where
     -- "'No row' never reads as a row": a row that is named is one of those lent
-    pub first_is_there : {i : ℕ} → act.first ≡ Holds i → i < lent
+    pub first_is_there : {i : ℕ} → act.first ≡ Some i → i < lent
     first_is_there = named.first_is_there T A flat e
 
-    pub second_is_there : {i : ℕ} → act.second ≡ Holds i → i < lent
+    pub second_is_there : {i : ℕ} → act.second ≡ Some i → i < lent
     second_is_there = named.second_is_there T A flat e
 
     -- what an answer has of x and y is a number
@@ -138,14 +141,14 @@ module _ (T : Task) (flat : List Float) where
 
   -- "Given an allowance it stops unfinished exactly when its count without one exceeds it": it gives back the allowance as its count, no active rows, and
   -- the rows as after the last normalisation whose readings all fitted
-  pub stops_exactly : (A : ℕ) → number (solve T A flat).outcome ≡ 3 ↔ (refusal_of T flat ≡ 0) × (A < taken)
+  pub stops_exactly : (A : ℕ) → number (solve T A flat).outcome ≡ 3 ↔ (refusal_of T flat ≡ None) × (A < taken)
   stops_exactly = allowance.solve_three_exactly T flat
 
-  pub stops : (A : ℕ) → refusal_of T flat ≡ 0 → A < taken
-      → solve T A flat ≡ record { outcome = Stopped A; rows = flat_of (rows_within A (rows_of flat) solves) }
+  pub stops : (A : ℕ) → refusal_of T flat ≡ None → A < taken
+      → solve T A flat ≡ record { outcome = Err (Stopped A); rows = flat_of (rows_within A (rows_of flat) solves) }
   stops = allowance.solve_stops T flat
 
-  pub last_normalised : (A : ℕ) → refusal_of T flat ≡ 0 → A < taken
+  pub last_normalised : (A : ℕ) → refusal_of T flat ≡ None → A < taken
       → (j : ℕ) × ((solve T A flat).rows ≡ flat_of (left.normalised_by j (rows_of flat) solves)) × left.LastToFit A solves j
   last_normalised A fits above =
       let last = left.last_normalised A (rows_of flat) solves in
@@ -173,13 +176,13 @@ module _ (s : State) where
   y = s.at.y
 
   pub four_answers :
-      (is_nan x ≡ false → is_nan y ≡ false → answer (Done s) ≡ Point x y)
-      × (is_nan x ≡ true → is_nan y ≡ false → answer (Done s) ≡ Level y)
-      × (is_nan x ≡ false → is_nan y ≡ true → answer (Done s) ≡ Across x)
-      × (is_nan x ≡ true → is_nan y ≡ true → answer (Done s) ≡ Nothing)
+      (is_nan x ≡ false → is_nan y ≡ false → answer (Some s) ≡ Point x y)
+      × (is_nan x ≡ true → is_nan y ≡ false → answer (Some s) ≡ Level y)
+      × (is_nan x ≡ false → is_nan y ≡ true → answer (Some s) ≡ Across x)
+      × (is_nan x ≡ true → is_nan y ≡ true → answer (Some s) ≡ Nothing)
   four_answers = of-answers.four_answers s
 
-  pub infinite_numbers : {minus : Bool} → (x ≡ inf minus) ⊎ (y ≡ inf minus) → answer (Done s) ≢ Nothing
+  pub infinite_numbers : {minus : Bool} → (x ≡ inf minus) ⊎ (y ≡ inf minus) → answer (Some s) ≢ Nothing
   infinite_numbers = of-answers.infinite_numbers s
 
 -- ---- RULES 5.1 to 5.3: no row, and one

@@ -1,4 +1,5 @@
 -- What RULES 5 and 6 say of a warm start, and of a solve that fails, as facts of the definitions.
+use Rattle.std.specs.Prelude.{Some, None}
 use mathlib.Core.Path.{◌≡◌, refl}
 use mathlib.Core.Bool.{true, ◌&&◌, ◌||◌}
 use mathlib.Core.List.{List}
@@ -13,7 +14,6 @@ use Rattle.rows.specs.declared.Row.{Row}
 use Rattle.active.specs.Active.{no_rows}
 use Rattle.step.specs.declared.Frame.{Frame}
 use Rattle.step.specs.declared.State.{State}
-use Rattle.step.specs.declared.Found.TheVariants.{Failed, Done}
 use Rattle.once.specs.declared.WarmStart.{WarmStart}
 use Rattle.solve.specs.declared.Answer.TheVariants.{Nothing}
 use Rattle.passes.specs.Passes.{forward}
@@ -21,7 +21,7 @@ use Rattle.once.specs.Once.{widened, begun}
 use Rattle.solve.specs.Solve.{answer, active_rows}
 
 -- a skip past the end leaves the forward pass empty
-pub skips_all : (scale : Float) (R : List Row) (F : Frame) (skip : ℕ) (s : State) → length R ≤ skip → forward scale R F (drop skip R) skip s ≡ pure (Done s)
+pub skips_all : (scale : Float) (R : List Row) (F : Frame) (skip : ℕ) (s : State) → length R ≤ skip → forward scale R F (drop skip R) skip s ≡ pure (Some s)
 unfolding forward
 skips_all scale R F skip s h = rw (drop_of_length-le R {i = skip} h)
 
@@ -38,10 +38,10 @@ module _ (start : WarmStart) (bound : Float) where
   moves_up h = rw h
 
 -- a solve that fails gives nothing, and no active rows
-pub failed_is_nothing : answer Failed ≡ Nothing
+pub failed_is_nothing : answer None ≡ Nothing
 unfolding answer
 failed_is_nothing = refl
 
-pub failed_clears : active_rows Failed ≡ no_rows
+pub failed_clears : active_rows None ≡ no_rows
 unfolding active_rows
 failed_clears = refl

@@ -1,4 +1,5 @@
 -- What an answer says of the point that a solve found: which of x and y it has. And what one row comes to, and no row.
+use Rattle.std.specs.Prelude.{Option, Some, None}
 use mathlib.Core.Path.{◌≡◌, refl, sym, ap, ◌∙◌}
 use mathlib.Core.Logic.{◌⊎◌, inl, inr, ◌≢◌}
 use mathlib.Core.Bool.{Bool, true, false, false≢true, ◌&&◌}
@@ -17,14 +18,11 @@ use Rattle.rows.specs.Rows.{rows_of, flat_of}
 use Rattle.active.specs.declared.Active.{Active}
 use Rattle.active.specs.Active.{no_rows}
 use Rattle.step.specs.declared.State.{State}
-use Rattle.step.specs.declared.Found.{Found}
-use Rattle.step.specs.declared.Found.TheVariants.{Failed, Done}
 use Rattle.once.specs.declared.Task.{Task}
 use Rattle.solve.specs.declared.Answer.{Answer}
 use Rattle.solve.specs.declared.Answer.TheVariants as AnswerIs
-use Rattle.solve.specs.declared.Outcome.TheVariants.{Answered}
 use Rattle.once.specs.Once.{lone, once}
-use Rattle.solve.specs.Solve.{solves, all_solves, last_of, count, answer, active_rows, answered, finished, solve, lp2d_incre_max_y, values}
+use Rattle.solve.specs.Solve.{Answered, solves, all_solves, last_of, count, answer, active_rows, answered, finished, solve, lp2d_incre_max_y, values}
 use Rattle.solve.proofs.Refusals.{refusal_0}
 use Rattle.solve.proofs.Allowance.{takes}
 use Rattle.demands.proofs.Outcomes.{answer_has}
@@ -40,26 +38,26 @@ module _ (s : State) where
 
   -- point with x and y, level with y alone, across with x alone, nothing
   pub four_answers :
-      (is_nan x ≡ false → is_nan y ≡ false → answer (Done s) ≡ AnswerIs.Point x y)
-      × (is_nan x ≡ true → is_nan y ≡ false → answer (Done s) ≡ AnswerIs.Level y)
-      × (is_nan x ≡ false → is_nan y ≡ true → answer (Done s) ≡ AnswerIs.Across x)
-      × (is_nan x ≡ true → is_nan y ≡ true → answer (Done s) ≡ AnswerIs.Nothing)
+      (is_nan x ≡ false → is_nan y ≡ false → answer (Some s) ≡ AnswerIs.Point x y)
+      × (is_nan x ≡ true → is_nan y ≡ false → answer (Some s) ≡ AnswerIs.Level y)
+      × (is_nan x ≡ false → is_nan y ≡ true → answer (Some s) ≡ AnswerIs.Across x)
+      × (is_nan x ≡ true → is_nan y ≡ true → answer (Some s) ≡ AnswerIs.Nothing)
   unfolding answer when◌then◌else◌
   four_answers = (λ p q. rw (p, q), λ p q. rw (p, q), λ p q. rw (p, q), λ p q. rw (p, q))
 
   -- so what it has not is NaN
-  pub values_found : values (answer (Done s)) ≡ s.at
+  pub values_found : values (answer (Some s)) ≡ s.at
   unfolding values
   values_found = by_tests (is_nan x) (is_nan y) refl refl
     where
-      by_tests : (b c : Bool) → is_nan x ≡ b → is_nan y ≡ c → values (answer (Done s)) ≡ s.at
+      by_tests : (b c : Bool) → is_nan x ≡ b → is_nan y ≡ c → values (answer (Some s)) ≡ s.at
       by_tests false false p q = rw (four_answers.0 p q)
       by_tests true false p q = rw (four_answers.1 p q, one_nan x p)
       by_tests false true p q = rw (four_answers.2 p q, one_nan y q)
       by_tests true true p q = rw (four_answers.3 p q, one_nan x p, one_nan y q)
 
   -- and an infinite number is one
-  pub infinite_numbers : {minus : Bool} → (x ≡ inf minus) ⊎ (y ≡ inf minus) → answer (Done s) ≢ AnswerIs.Nothing
+  pub infinite_numbers : {minus : Bool} → (x ≡ inf minus) ⊎ (y ≡ inf minus) → answer (Some s) ≢ AnswerIs.Nothing
   unfolding values is_nan
   infinite_numbers h none = go h
     where
@@ -77,12 +75,12 @@ Numbers (AnswerIs.Level y) = is_nan y ≡ false
 Numbers (AnswerIs.Across x) = is_nan x ≡ false
 Numbers AnswerIs.Nothing = Unit {0}
 
-answer_numbers : (found : Found) → Numbers (answer found)
+answer_numbers : (found : Option State) → Numbers (answer found)
 unfolding answer
-answer_numbers Failed = tt
-answer_numbers (Done s) = by_tests (is_nan s.at.x) (is_nan s.at.y) refl refl
+answer_numbers None = tt
+answer_numbers (Some s) = by_tests (is_nan s.at.x) (is_nan s.at.y) refl refl
   where
-    by_tests : (b c : Bool) → is_nan s.at.x ≡ b → is_nan s.at.y ≡ c → Numbers (answer (Done s))
+    by_tests : (b c : Bool) → is_nan s.at.x ≡ b → is_nan s.at.y ≡ c → Numbers (answer (Some s))
     by_tests false false p q = rw ((four_answers s).0 p q) (p, q)
     by_tests true false p q = rw ((four_answers s).1 p q) q
     by_tests false true p q = rw ((four_answers s).2 p q) p
@@ -113,7 +111,7 @@ module _ (T : Task) (a b c : Float) where
   unfolding lone active_rows when◌then◌else◌
   one_row_level p q =
       let found : State = record { at = record { x = nan; y = c ⊘ b }; active = no_rows } in
-      (answer (Done found), one_row ∙ rw (p, q), values_found found)
+      (answer (Some found), one_row ∙ rw (p, q), values_found found)
 
   pub one_row_nothing : abs a ≺ eps_zero && b ≻ eps_zero ≡ false
       → lp2d_incre_max_y T (a ∷ b ∷ c ∷ []) ≡ record { outcome = Answered AnswerIs.Nothing no_rows 1; rows = a ∷ b ∷ c ∷ [] }

@@ -7,3 +7,4 @@ pub mod Joined
 pub mod Demands
 pub mod Signs
 pub mod One
+pub mod Passed

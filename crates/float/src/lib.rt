@@ -20,10 +20,11 @@ pub fn nan() -> f64
 }
 
 // x itself, a NaN as the one of `nan`. The contract cannot tell two NaNs apart: a run of the built code looks at the bits.
+#[tactic(auto, using(crate::proofs::Nans::one_nan))]
 pub fn settled(x: f64) -> f64
     ensures { result ≡ x }
 {
-    if x != x { nan() } else { x }
+    if x.is_nan() { nan() } else { x }
 }
 
 // 0 - x is x with the other sign, and +0 for a zero of either sign. Where one operation or comparison takes the result,
@@ -41,14 +42,15 @@ pub fn is_finite(x: f64) -> bool
 }
 
 // Numbers that are equal have the same bits, but for zeros of both signs. Joined by `|` those are the bits of -0, and by `&` those of +0. The
-// built code branches to that only where the two are equal; which one it gives otherwise it selects without a branch.
+// built code branches to that only where the two are equal; which one it gives otherwise it selects without a branch. min and max stay two
+// functions: they differ in one sign of each arm, `|` or `&` and `y < x` or `x < y`, which one with a const parameter would have to test for.
 pub fn min(x: f64, y: f64) -> f64
     ensures { result ≡ min x y }
 {
     if x == y {
         float_of(bits_of(x) | bits_of(y))
     } else {
-        if x != x || y < x { y } else { x }
+        if x.is_nan() || y < x { y } else { x }
     }
 }
 
@@ -58,7 +60,7 @@ pub fn max(x: f64, y: f64) -> f64
     if x == y {
         float_of(bits_of(x) & bits_of(y))
     } else {
-        if x != x || x < y { y } else { x }
+        if x.is_nan() || x < y { y } else { x }
     }
 }
 
@@ -70,14 +72,14 @@ pub fn clamp(x: f64, low: f64, high: f64) -> f64
 }
 
 // The bits of a float; of a NaN, whatever its own, 7FF8000000000000.
+#[tactic(auto, using(crate::proofs::Nans::one_nan, crate::proofs::Nans::bits_of_nan))]
 pub fn bits_of(x: f64) -> u64
     ensures { result ≡ Ieee.to_bits Ieee.binary64 x }
 {
-    if x != x {
+    if x.is_nan() {
         0x7FF8_0000_0000_0000
     } else {
-        let bits = f64::to_bits(x);
-        bits
+        x.to_bits()
     }
 }
 

@@ -1,16 +1,10 @@
 // Bytes of rows, cut anywhere, gathered into floats: whole ones are stored, and what is begun of one is a word.
 #![tactic(auto)]
 
-ghost use Rattle.std.specs.Prelude.{◌≡◌, ℕ, ◌+◌, ◌*◌, ◌≤◌, min, length};
+ghost use Rattle.std.specs.Prelude.{◌≡◌, ℕ, ◌+◌, ◌*◌, ◌≤◌, length};
 ghost use Rattle.record.specs.Sizes.{most_floats};
 ghost use Rattle.record.specs.Bytes.{floats as floatsOf};
 ghost use Rattle.gather.specs.Gather.{pushed, word_all, rows_all};
-
-pub fn least(a: usize, b: usize) -> usize
-    ensures { result ≡ min a b }
-{
-    if a < b { a } else { b }
-}
 
 // ---- bytes behind `before` others
 
@@ -32,13 +26,11 @@ fn push_bytes(word: u64, rows: &mut [f64], before: usize, bytes: &[u8]) -> u64
     ensures rows { rows.new ≡ rows_all before word rows.old bytes.now }
 {
     let mut now = word;
-    let mut i = 0;
-    while i < bytes.len() {
-        now = push(before + i, now, bytes[i]);
+    for (i, byte) in bytes.iter().enumerate() {
+        now = push(before + i, now, *byte);
         if (before + i) % 8 == 7 {
             rows[(before + i) / 8] = float::float_of(now);
         }
-        i += 1;
     }
     now
 }
@@ -48,10 +40,8 @@ fn read_floats(floats: &mut [f64], bytes: &[u8])
     requires { length bytes.now ≡ 8 * length floats.old }
     ensures { floats.new ≡ floatsOf (length floats.old) bytes.now }
 {
-    let mut i = 0;
-    while i < floats.len() {
-        floats[i] = float::float_of(record::le64(bytes, 8 * i));
-        i += 1;
+    for (i, place) in floats.iter_mut().enumerate() {
+        *place = float::float_of(record::le64(bytes, 8 * i));
     }
 }
 
@@ -73,7 +63,7 @@ pub fn push_rows(word: u64, rows: &mut [f64], before: usize, bytes: &[u8]) -> u6
     ensures word { result ≡ word_all before word bytes.now }
     ensures rows { rows.new ≡ rows_all before word rows.old bytes.now }
 {
-    let first = least((8 - before % 8) % 8, bytes.len());
+    let first = ((8 - before % 8) % 8).min(bytes.len());
     let n = (bytes.len() - first) / 8;
     let last = first + 8 * n;
     let begun = push_bytes(word, rows, before, &bytes[..first]);

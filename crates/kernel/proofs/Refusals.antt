@@ -1,18 +1,16 @@
 -- What the solves come to where the task's number names no mode, and where it does.
 use mathlib.Core.Path.{◌≡◌, refl, sym}
-use mathlib.Core.Bool.{Bool, true, false}
-use mathlib.Core.Logic.{◌≢◌}
+use mathlib.Core.Bool.{true, false}
 use mathlib.Core.List.{List}
-use Prim.Native.Nat.{ℕ, ◌*◌}
-use borrow.Author.Tests.{eqb-false}
-use lib.Dec.{eqb}
+use Prim.Native.Nat.{◌*◌}
 use lib.ListN.{length}
 use lib.Ieee.{Float}
-use Rattle.float.specs.Operators.{when◌then◌else◌}
+use Rattle.std.specs.Prelude.{Option, Some, None, Err}
 use Rattle.rows.specs.declared.Row.{Row}
+use Rattle.rows.specs.declared.Refusal.{Refusal}
 use Rattle.rows.specs.Rows.{flat_of, refusal}
 use Rattle.rows.proofs.Lengths.{length-flat_of}
-use Rattle.solve.specs.declared.Outcome.TheVariants.{Refused}
+use Rattle.solve.specs.declared.Unsolved.TheVariants.{Refused}
 use Rattle.solve.specs.Solve as Solve
 use Rattle.solve.specs.Solve.{Ended, solve, lp2d_incre_max_y}
 use Rattle.demands.proofs.Demands as of-floats
@@ -25,49 +23,56 @@ use Rattle.abi.proofs.Refusals.{some_refusal, same_refusal}
 -- ---- the solves of floats
 
 module _ (t : SolveTask) (flat : List Float) where
-  abbrev refused : Ended (List Float)
-  refused = record { outcome = Refused (refusal_of t flat); rows = flat }
+  abbrev refused_by : Refusal → Ended (List Float)
+  refused_by why = record { outcome = Err (Refused why); rows = flat }
 
-  with_no_mode : (e : Ended (List Float)) → no_mode t.normalize ≡ true → unless_refused t flat e ≡ refused
-  unfolding unless_refused refusal_of when◌then◌else◌
-  with_no_mode e h = rw (some_refusal (Solve.refusal_of (task t) flat) t.normalize h)
+  -- where it names none there is a refusal, which is what they come to
+  abbrev Refuses : Ended (List Float) → Type 0
+  Refuses e = (why : Refusal) × (refusal_of t flat ≡ Some why) × (e ≡ refused_by why)
 
-  pub solving_refuses : no_mode t.normalize ≡ true → solving t flat ≡ refused
+  with_no_mode : (e : Ended (List Float)) → no_mode t.normalize ≡ true → Refuses (unless_refused t flat e)
+  unfolding unless_refused refusal_of
+  with_no_mode e h = let some = some_refusal (Solve.refusal_of (task t) flat) t.normalize h in (some.0, some.1, rw some.1)
+
+  pub solving_refuses : no_mode t.normalize ≡ true → Refuses (solving t flat)
   unfolding solving
   solving_refuses = with_no_mode (solve (task t) t.allowance flat)
 
-  pub source_refuses : no_mode t.normalize ≡ true → solving_source t flat ≡ refused
+  pub source_refuses : no_mode t.normalize ≡ true → Refuses (solving_source t flat)
   unfolding solving_source
   source_refuses = with_no_mode (lp2d_incre_max_y (task t) flat)
 
   -- where the solve refuses by itself it makes no difference to ask before
-  abbrev own_refusal : ℕ
+  abbrev own_refusal : Option Refusal
   own_refusal = Solve.refusal_of (task t) flat
 
-  with_a_mode : (e : Ended (List Float)) → (own_refusal ≢ 0 → e ≡ record { outcome = Refused own_refusal; rows = flat })
+  with_a_mode : (e : Ended (List Float)) → ((why : Refusal) → own_refusal ≡ Some why → e ≡ refused_by why)
       → no_mode t.normalize ≡ false → unless_refused t flat e ≡ e
-  unfolding unless_refused refusal_of when◌then◌else◌
-  with_a_mode e refuses h = rw (same_refusal own_refusal t.normalize h) (by_test (eqb own_refusal 0) refl)
+  unfolding unless_refused refusal_of
+  with_a_mode e refuses h = rw (same_refusal own_refusal t.normalize h) (by_refusal own_refusal refl)
     where
-      by_test : (b : Bool) → eqb own_refusal 0 ≡ b → ◌≡◌ {A = Ended (List Float)} (when b then e else record { outcome = Refused own_refusal; rows = flat }) e
-      by_test true p = refl
-      by_test false p = sym (refuses (eqb-false own_refusal 0 p))
+      by_refusal : (own : Option Refusal) → own_refusal ≡ own → Solve.unless_refused own flat e ≡ e
+      by_refusal None p = refl
+      by_refusal (Some why) p = sym (refuses why p)
 
   pub solving-solves : no_mode t.normalize ≡ false → solving t flat ≡ solve (task t) t.allowance flat
   unfolding solving
-  solving-solves = with_a_mode (solve (task t) t.allowance flat) (of-floats.refuses (task t) flat t.allowance)
+  solving-solves = with_a_mode (solve (task t) t.allowance flat) (λ why. of-floats.refuses (task t) flat t.allowance)
 
   pub source-solves : no_mode t.normalize ≡ false → solving_source t flat ≡ lp2d_incre_max_y (task t) flat
   unfolding solving_source
-  source-solves = with_a_mode (lp2d_incre_max_y (task t) flat) (of-floats.refuses_alike (task t) flat)
+  source-solves = with_a_mode (lp2d_incre_max_y (task t) flat) (λ why. of-floats.refuses_alike (task t) flat)
 
 -- ---- and of rows that are records
 
 module _ (t : SolveTask) (rows : List Row) where
   pub rows_refuse : no_mode t.normalize ≡ true
-      → solving_rows t rows ≡ record { outcome = Refused (or_ten (refusal 3 (3 * length rows)) t.normalize); rows = rows }
+      → (why : Refusal) × (or_ten (refusal 3 (3 * length rows)) t.normalize ≡ Some why)
+      × (solving_rows t rows ≡ record { outcome = Err (Refused why); rows = rows })
   unfolding solving_rows refusal_of Solve.refusal_of
-  rows_refuse h = rw (solving_refuses t (flat_of rows) h, length-flat_of rows, rows_of_floats rows)
+  rows_refuse h =
+      let refused = solving_refuses t (flat_of rows) h in
+      (refused.0, rw length-flat_of at refused.1, rw (refused.2, rows_of_floats rows))
 
   pub rows-solve : no_mode t.normalize ≡ false → solving_rows t rows ≡ solve_rows (task t) t.allowance rows
   unfolding solving_rows solve_rows

@@ -16,12 +16,10 @@ ghost use Rattle.abi.specs.Entries.{solving, solving_rows, solving_source, line_
 use abi::{
     Crossed, LineBounds, LineTask, RecoveredPoint, RecoveryTask, SolveTask, Solved, SourceSolved,
 };
-use active::Collector;
-use line::{Bounds, Tolerances};
+use line::Tolerances;
 use link::Fed;
 use reader::Link;
-use recover::Recovered;
-use rows::{Crossing, Normalized, Point, Row};
+use rows::{Point, Row};
 use step::Frame;
 
 // ---- root, fused multiply-add, normalising, the 2 by 2 system, one dimension
@@ -45,10 +43,9 @@ pub extern "C" fn ravelsickle_normalize(rows: &mut [f64]) -> u64
     ensures answer { result ≡ of_normalized (normalizing rows.old) }
     ensures lent { rows.new ≡ normalized_flat rows.old }
 {
-    let got = rows::normalize_lp2d(rows);
-    match got {
-        Normalized::Done => 0,
-        Normalized::Refused(number) => number,
+    match rows::normalize_lp2d(rows) {
+        Ok(()) => 0,
+        Err(refusal) => u64::from(refusal),
     }
 }
 
@@ -56,15 +53,14 @@ pub extern "C" fn ravelsickle_normalize(rows: &mut [f64]) -> u64
 pub extern "C" fn ravelsickle_solve_2x2(r: Row, s: Row) -> Crossed
     ensures { result ≡ crossed (crossing r s) }
 {
-    let got = rows::solve_2x2(r, s);
-    match got {
-        Crossing::At(at) => Crossed {
+    match rows::solve_2x2(r, s) {
+        Ok(at) => Crossed {
             refusal: 0,
             x: at.x,
             y: at.y,
         },
-        Crossing::Refused(number) => Crossed {
-            refusal: number,
+        Err(refusal) => Crossed {
+            refusal: u64::from(refusal),
             x: float::nan(),
             y: float::nan(),
         },
@@ -79,15 +75,14 @@ pub extern "C" fn ravelsickle_lp_1d(pairs: &[f64], task: LineTask) -> LineBounds
         feasibility: task.feasibility,
         scale: task.scale,
     };
-    let got = line::lp_1d(pairs, task.autonan, tol);
-    match got {
-        Bounds::Between(high, low) => LineBounds {
+    match line::lp_1d(pairs, task.autonan, tol) {
+        Ok(bounds) => LineBounds {
             refusal: 0,
-            high: high,
-            low: low,
+            high: bounds.high,
+            low: bounds.low,
         },
-        Bounds::Refused(number) => LineBounds {
-            refusal: number,
+        Err(refusal) => LineBounds {
+            refusal: u64::from(refusal),
             high: float::nan(),
             low: float::nan(),
         },
@@ -110,15 +105,14 @@ pub extern "C" fn ravelsickle_recover_2d_prefix(rows: &[f64], task: RecoveryTask
         reduced: task.reduced,
     };
     let act = abi::collector_of(task);
-    let got = recover::recover_2d_prefix(rows, task.upto, at, f, Collector::On(act));
-    match got {
-        Recovered::At(p, found) => abi::recovered_at(0, p, active::held(found)),
-        Recovered::Refused(number) => {
+    match recover::recover_2d_prefix(rows, task.upto, at, f, Some(act)) {
+        Ok(found) => abi::recovered_at(0, found.at, active::held(found.collector)),
+        Err(refusal) => {
             let nowhere = Point {
                 x: float::nan(),
                 y: float::nan(),
             };
-            abi::recovered_at(number, nowhere, act)
+            abi::recovered_at(u64::from(refusal), nowhere, act)
         }
     }
 }
@@ -131,7 +125,7 @@ pub extern "C" fn ravelsickle_solve(rows: &mut [f64], task: SolveTask) -> Solved
     ensures lent { rows.new ≡ (solving task rows.old).rows }
 {
     if abi::no_mode(task.normalize) {
-        return abi::unsolved(abi::refusal_of(rows, task), 0);
+        return abi::unsolved(abi::number_of(abi::refusal_of(rows, task)), 0);
     }
     let got = solve::solve(rows, abi::task_of(task), task.allowance);
     abi::solved_of(got)
@@ -157,7 +151,7 @@ pub extern "C" fn ravelsickle_lp_2d_incre_max_y(rows: &mut [f64], task: SolveTas
     ensures lent { rows.new ≡ (solving_source task rows.old).rows }
 {
     if abi::no_mode(task.normalize) {
-        return abi::refused(abi::refusal_of(rows, task));
+        return abi::refused(abi::number_of(abi::refusal_of(rows, task)));
     }
     let got = solve::lp_2d_incre_max_y(rows, abi::task_of(task));
     abi::source_of(got)

@@ -2,22 +2,20 @@
 // rows as records give what the same floats give.
 #![tactic(auto)]
 
-ghost use Rattle.std.specs.Prelude.{◌≡◌, ◌+◌, ◌*◌, ◌≤◌, length, take};
+ghost use Rattle.std.specs.Prelude.{◌≡◌, ◌+◌, ◌*◌, ◌≤◌, Some, length, take};
 ghost use Rattle.rows.specs.Constants.{most_rows};
 ghost use Rattle.active.specs.Active.{no_rows, set_first, set_second};
-ghost use Rattle.active.specs.declared.Collector.TheVariants.{On};
 ghost use Rattle.recover.specs.Recover.{recovering};
 ghost use Rattle.solve.specs.Solve.{solve};
 ghost use Rattle.by_value.specs.ByValue.{kept, answered, remains};
 ghost use Rattle.lent.specs.Lent.{solve_rows};
 
-use active::{Active, Slot};
-use by_value::Recovery;
+use active::Active;
 use line::Tolerances;
 use once::{Normalize, Task, WarmStart};
-use rows::{Point, Row};
-use solve::{Answer, Outcome};
-use std::io;
+use rows::{Point, Refusal, Row};
+use solve::{Answer, Outcome, Unsolved};
+use std::{fmt, io};
 use step::Frame;
 
 // One row more than is taken.
@@ -26,15 +24,8 @@ const ROWS: usize = rows::MOST_ROWS + 1;
 // ---- each of these lends a record or rows to entries of `lent`, and gives back what they leave
 
 // A collector after `set_first`, then `set_second`, then `clear`.
-#[derive(Clone, Copy)]
-struct Left {
-    first: Active,
-    second: Active,
-    cleared: Active,
-}
-
-fn settings(c: Active, i: usize, j: usize) -> Left
-    ensures { result ≡ record { first = set_first i c; second = set_second j (set_first i c); cleared = no_rows } }
+fn settings(c: Active, i: usize, j: usize) -> (Active, Active, Active)
+    ensures { result ≡ (set_first i c, set_second j (set_first i c), no_rows) }
 {
     let mut held = c;
     lent::set_first(&mut held, i);
@@ -42,138 +33,148 @@ fn settings(c: Active, i: usize, j: usize) -> Left
     lent::set_second(&mut held, j);
     let second = held;
     lent::clear(&mut held);
-    Left {
-        first: first,
-        second: second,
-        cleared: held,
-    }
+    (first, second, held)
 }
 
-#[derive(Clone, Copy)]
-struct Collected {
-    outcome: Outcome,
-    active: Active,
-}
-
-fn collecting(rows: &mut [f64], task: Task, allowance: u64, c: Active) -> Collected
-    ensures answer { result.outcome ≡ (solve task allowance rows.old).outcome }
+fn collecting(rows: &mut [f64], task: Task, allowance: u64, c: Active) -> (Outcome, Active)
+    ensures answer { result.0 ≡ (solve task allowance rows.old).outcome }
     ensures lent { rows.new ≡ (solve task allowance rows.old).rows }
-    ensures collected { result.active ≡ kept c (solve task allowance rows.old).outcome }
+    ensures collected { result.1 ≡ kept c (solve task allowance rows.old).outcome }
 {
     let mut held = c;
     let outcome = lent::solve_collecting(rows, task, allowance, &mut held);
-    Collected {
-        outcome: outcome,
-        active: held,
-    }
+    (outcome, held)
 }
 
-#[derive(Clone, Copy)]
-struct Found {
-    answer: Recovery,
-    active: Active,
-}
-
-fn recovering(rows: &[f64], upto: usize, at: Point, f: Frame, c: Active) -> Found
-    ensures answer { result.answer ≡ answered (recovering rows.now upto at f (On c)) }
-    ensures collected { result.active ≡ remains c (recovering rows.now upto at f (On c)) }
+fn recovering(
+    rows: &[f64],
+    upto: usize,
+    at: Point,
+    f: Frame,
+    c: Active,
+) -> (Result<Point, Refusal>, Active)
+    ensures answer { result.0 ≡ answered (recovering rows.now upto at f (Some c)) }
+    ensures collected { result.1 ≡ remains c (recovering rows.now upto at f (Some c)) }
 {
     let mut held = c;
     let answer = lent::recover_collecting(rows, upto, at, f, &mut held);
-    Found {
-        answer: answer,
-        active: held,
-    }
-}
-
-#[derive(Clone, Copy)]
-struct Records {
-    outcome: Outcome,
-    rows: [Row; ROWS],
+    (answer, held)
 }
 
 // The first n rows are lent.
-fn by_records(rows: [Row; ROWS], n: usize, task: Task, allowance: u64) -> Records
+fn by_records(rows: [Row; ROWS], n: usize, task: Task, allowance: u64) -> (Outcome, [Row; ROWS])
     requires { n ≤ most_rows + 1 }
-    ensures answer { result.outcome ≡ (solve_rows task allowance (take n rows)).outcome }
-    ensures lent { take n result.rows ≡ (solve_rows task allowance (take n rows)).rows }
+    ensures answer { result.0 ≡ (solve_rows task allowance (take n rows)).outcome }
+    ensures lent { take n result.1 ≡ (solve_rows task allowance (take n rows)).rows }
 {
     let mut held = rows;
     let outcome = lent::solve_rows(&mut held[..n], task, allowance);
-    Records {
-        outcome: outcome,
-        rows: held,
+    (outcome, held)
+}
+
+// ---- what is printed and compared: each of these is equal where all of it is, a float where its bits are, which print it
+
+#[derive(Clone, Copy, PartialEq, Eq)]
+struct Bits(u64);
+
+impl From<f64> for Bits {
+    fn from(x: f64) -> Bits {
+        Bits(float::bits_of(x))
     }
 }
 
-// ---- what is printed
-
-fn print_number(rt: &impl Print, n: u64) -> io::Result<()> {
-    print!(rt; " {n}")
-}
-
-// By its bits.
-fn print_float(rt: &impl Print, x: f64) -> io::Result<()> {
-    print!(rt; " {:016x}", float::bits_of(x))
-}
-
-fn print_slot(rt: &impl Print, slot: Slot) -> io::Result<()> {
-    match slot {
-        Slot::NoRow => print!(rt; " -"),
-        Slot::Holds(k) => print_number(rt, k as u64),
+impl fmt::Display for Bits {
+    fn fmt<W: fmt::Write>(&self, f: &mut fmt::Formatter<W>) -> fmt::Result {
+        write!(f, "{:016x}", self.0)
     }
 }
 
-fn print_active(rt: &impl Print, act: Active) -> io::Result<()> {
-    let one = act.first;
-    let other = act.second;
-    print_slot(rt, one)?;
-    print_slot(rt, other)
+// The number of a row, or none.
+#[derive(Clone, Copy, PartialEq, Eq)]
+struct Slot(Option<usize>);
+
+impl fmt::Display for Slot {
+    fn fmt<W: fmt::Write>(&self, f: &mut fmt::Formatter<W>) -> fmt::Result {
+        match self.0 {
+            None => f.write_str("-"),
+            Some(k) => write!(f, "{k}"),
+        }
+    }
 }
 
-fn print_answer(rt: &impl Print, a: Answer) -> io::Result<()> {
-    match a {
-        Answer::Point(x, y) => {
-            print!(rt; " point")?;
-            print_float(rt, x)?;
-            print_float(rt, y)
+// The two rows that a collector holds.
+#[derive(Clone, Copy, PartialEq, Eq)]
+struct Rows(Active);
+
+impl fmt::Display for Rows {
+    fn fmt<W: fmt::Write>(&self, f: &mut fmt::Formatter<W>) -> fmt::Result {
+        write!(f, "{} {}", Slot(self.0.first), Slot(self.0.second))
+    }
+}
+
+// An answer.
+#[derive(Clone, Copy, PartialEq, Eq)]
+enum Said {
+    Point(Bits, Bits),
+    Level(Bits),
+    Across(Bits),
+    Nothing,
+}
+
+impl From<Answer> for Said {
+    fn from(answer: Answer) -> Said {
+        match answer {
+            Answer::Point(x, y) => Said::Point(x.into(), y.into()),
+            Answer::Level(y) => Said::Level(y.into()),
+            Answer::Across(x) => Said::Across(x.into()),
+            Answer::Nothing => Said::Nothing,
         }
-        Answer::Level(y) => {
-            print!(rt; " level")?;
-            print_float(rt, y)
+    }
+}
+
+impl fmt::Display for Said {
+    fn fmt<W: fmt::Write>(&self, f: &mut fmt::Formatter<W>) -> fmt::Result {
+        match *self {
+            Said::Point(x, y) => write!(f, "point {x} {y}"),
+            Said::Level(y) => write!(f, "level {y}"),
+            Said::Across(x) => write!(f, "across {x}"),
+            Said::Nothing => f.write_str("nothing"),
         }
-        Answer::Across(x) => {
-            print!(rt; " across")?;
-            print_float(rt, x)
-        }
-        Answer::Nothing => print!(rt; " nothing"),
+    }
+}
+
+// What comes of a solve: an answer with the active rows and the count, or why there is none.
+#[derive(Clone, Copy, PartialEq, Eq)]
+struct Told(Result<(Said, Rows, u64), Unsolved>);
+
+impl From<Outcome> for Told {
+    fn from(outcome: Outcome) -> Told {
+        Told(outcome.map(|got| (got.answer.into(), Rows(got.active), got.count)))
     }
 }
 
 // A refusal that returns a count, with it.
-fn print_outcome(rt: &impl Print, got: Outcome) -> io::Result<()> {
-    match got {
-        Outcome::Answered(a, act, n) => {
-            print_answer(rt, a)?;
-            print_active(rt, act)?;
-            print_number(rt, n)
-        }
-        Outcome::Stopped(n) => {
-            print!(rt; " refused 3")?;
-            print_number(rt, n)
-        }
-        Outcome::Refused(k) => {
-            print!(rt; " refused")?;
-            print_number(rt, k)
+impl fmt::Display for Told {
+    fn fmt<W: fmt::Write>(&self, f: &mut fmt::Formatter<W>) -> fmt::Result {
+        match self.0 {
+            Ok((answer, active, count)) => write!(f, "{answer} {active} {count}"),
+            Err(Unsolved::Stopped(count)) => write!(f, "refused 3 {count}"),
+            Err(Unsolved::Refused(refusal)) => write!(f, "refused {}", u64::from(refusal)),
         }
     }
 }
 
-// The end of a line: what the collector holds.
-fn print_left(rt: &impl Print, act: Active) -> io::Result<()> {
-    print!(rt; ", left")?;
-    print_active(rt, act)?;
-    println!(rt; "")
+// What comes of a recovery: a point, or why there is none.
+#[derive(Clone, Copy)]
+struct Recovery(Result<Point, Refusal>);
+
+impl fmt::Display for Recovery {
+    fn fmt<W: fmt::Write>(&self, f: &mut fmt::Formatter<W>) -> fmt::Result {
+        match self.0 {
+            Ok(at) => write!(f, "{} {}", Bits::from(at.x), Bits::from(at.y)),
+            Err(refusal) => write!(f, "refused {}", u64::from(refusal)),
+        }
+    }
 }
 
 // ---- the collector
@@ -181,19 +182,16 @@ fn print_left(rt: &impl Print, act: Active) -> io::Result<()> {
 // Rows 5 and 9.
 fn rows_5_9() -> Active {
     Active {
-        first: Slot::Holds(5),
-        second: Slot::Holds(9),
+        first: Some(5),
+        second: Some(9),
     }
 }
 
 fn sets(rt: &impl Print) -> io::Result<()> {
-    let left = settings(active::no_rows(), 5, 9);
-    print!(rt; "set_first")?;
-    print_left(rt, left.first)?;
-    print!(rt; "set_second")?;
-    print_left(rt, left.second)?;
-    print!(rt; "clear")?;
-    print_left(rt, left.cleared)
+    let (first, second, cleared) = settings(active::no_rows(), 5, 9);
+    println!(rt; "set_first, left {}", Rows(first))?;
+    println!(rt; "set_second, left {}", Rows(second))?;
+    println!(rt; "clear, left {}", Rows(cleared))
 }
 
 // Tolerance 1e-9, scale 10, start (0, 1e6), nothing skipped.
@@ -214,11 +212,12 @@ fn task_of(normalize: Normalize) -> Task {
 
 // A solve with a collector that holds rows 5 and 9.
 fn collects(rt: &impl Print, name: &str, rows: &mut [f64], allowance: u64) -> io::Result<()> {
-    let got = collecting(rows, task_of(Normalize::Off), allowance, rows_5_9());
-    let outcome = got.outcome;
-    print!(rt; "solve_collecting {name}")?;
-    print_outcome(rt, outcome)?;
-    print_left(rt, got.active)
+    let (outcome, left) = collecting(rows, task_of(Normalize::Off), allowance, rows_5_9());
+    println!(rt;
+        "solve_collecting {name} {}, left {}",
+        Told::from(outcome),
+        Rows(left)
+    )
 }
 
 fn recovers(
@@ -230,20 +229,12 @@ fn recovers(
     f: Frame,
     c: Active,
 ) -> io::Result<()> {
-    let got = recovering(rows, upto, at, f, c);
-    print!(rt; "recover_collecting {name}")?;
-    let answer = got.answer;
-    match answer {
-        Recovery::At(p) => {
-            print_float(rt, p.x)?;
-            print_float(rt, p.y)?;
-        }
-        Recovery::Refused(k) => {
-            print!(rt; " refused")?;
-            print_number(rt, k)?;
-        }
-    }
-    print_left(rt, got.active)
+    let (answer, left) = recovering(rows, upto, at, f, c);
+    println!(rt;
+        "recover_collecting {name} {}, left {}",
+        Recovery(answer),
+        Rows(left)
+    )
 }
 
 // ---- rows as records, beside the same rows as floats
@@ -262,8 +253,7 @@ fn filled() -> [f64; 3 * ROWS]
     let mut p = 0.0;
     let mut q = 0.0;
     let mut r = 0.0;
-    let mut k = 0usize;
-    while k < ROWS {
+    for k in 0..ROWS {
         p = next(p, 0.7390851332151607);
         q = next(q, 0.5671432904097838);
         r = next(r, 0.4142135623730951);
@@ -276,115 +266,21 @@ fn filled() -> [f64; 3 * ROWS]
                 c: 2.0 + r,
             },
         );
-        k += 1;
     }
     flat
 }
 
 fn as_records(flat: &[f64; 3 * ROWS]) -> [Row; ROWS] {
-    let mut rows = [Row {
-        a: 0.0,
-        b: 0.0,
-        c: 0.0,
-    }; ROWS];
-    let mut k = 0usize;
-    while k < ROWS {
-        rows[k] = rows::row_at(flat, k);
-        k += 1;
-    }
-    rows
+    std::array::from_fn(|k| rows::row_at(flat, k))
 }
 
-fn same(x: f64, y: f64) -> bool {
-    float::bits_of(x) == float::bits_of(y)
-}
-
-fn same_slot(here: Slot, there: Slot) -> bool {
-    match here {
-        Slot::NoRow => match there {
-            Slot::NoRow => true,
-            Slot::Holds(_) => false,
-        },
-        Slot::Holds(i) => match there {
-            Slot::NoRow => false,
-            Slot::Holds(j) => i == j,
-        },
-    }
-}
-
-fn same_active(here: Active, there: Active) -> bool {
-    let one = here.first;
-    let other = there.first;
-    let last = here.second;
-    let end = there.second;
-    same_slot(one, other) && same_slot(last, end)
-}
-
-fn same_answer(here: Answer, there: Answer) -> bool {
-    match here {
-        Answer::Point(x, y) => match there {
-            Answer::Point(u, v) => same(x, u) && same(y, v),
-            Answer::Level(_) => false,
-            Answer::Across(_) => false,
-            Answer::Nothing => false,
-        },
-        Answer::Level(y) => match there {
-            Answer::Point(_, _) => false,
-            Answer::Level(v) => same(y, v),
-            Answer::Across(_) => false,
-            Answer::Nothing => false,
-        },
-        Answer::Across(x) => match there {
-            Answer::Point(_, _) => false,
-            Answer::Level(_) => false,
-            Answer::Across(u) => same(x, u),
-            Answer::Nothing => false,
-        },
-        Answer::Nothing => match there {
-            Answer::Point(_, _) => false,
-            Answer::Level(_) => false,
-            Answer::Across(_) => false,
-            Answer::Nothing => true,
-        },
-    }
-}
-
-fn same_outcome(here: Outcome, there: Outcome) -> bool {
-    match here {
-        Outcome::Answered(a, act, n) => match there {
-            Outcome::Answered(b, other, m) => {
-                same_answer(a, b) && same_active(act, other) && n == m
-            }
-            Outcome::Stopped(_) => false,
-            Outcome::Refused(_) => false,
-        },
-        Outcome::Stopped(n) => match there {
-            Outcome::Answered(_, _, _) => false,
-            Outcome::Stopped(m) => n == m,
-            Outcome::Refused(_) => false,
-        },
-        Outcome::Refused(k) => match there {
-            Outcome::Answered(_, _, _) => false,
-            Outcome::Stopped(_) => false,
-            Outcome::Refused(j) => k == j,
-        },
-    }
-}
-
-fn same_row(here: Row, there: Row) -> bool {
-    same(here.a, there.a) && same(here.b, there.b) && same(here.c, there.c)
+fn bits_of(r: Row) -> (Bits, Bits, Bits) {
+    (r.a.into(), r.b.into(), r.c.into())
 }
 
 // Whether all rows are the same, those that were not lent too.
 fn same_rows(rows: [Row; ROWS], flat: &[f64; 3 * ROWS]) -> bool {
-    let mut k = 0usize;
-    while k < ROWS {
-        if !same_row(rows[k], rows::row_at(flat, k)) {
-            return false;
-        }
-        k += 1;
-    }
-    true
+    (0..ROWS).all(|k| bits_of(rows[k]) == bits_of(rows::row_at(flat, k)))
 }
 
 // The first n rows are solved.
@@ -401,18 +297,15 @@ fn compares(rt: &impl Print, n: usize, normalize: Normalize, allowance: u64) -> 
 {
     let task = task_of(normalize);
     let mut flat = filled();
-    let got = by_records(as_records(&flat), n, task, allowance);
-    let outcome = got.outcome;
-    let rows = got.rows;
-    let other = by_floats(&mut flat, n, task, allowance);
-    print!(rt; "solve_rows")?;
-    print_number(rt, n as u64)?;
-    print_outcome(rt, outcome)?;
-    if same_outcome(outcome, other) && same_rows(rows, &flat) {
-        println!(rt; ", same")
+    let (outcome, rows) = by_records(as_records(&flat), n, task, allowance);
+    let told = Told::from(outcome);
+    let other = Told::from(by_floats(&mut flat, n, task, allowance));
+    let word = if told == other && same_rows(rows, &flat) {
+        "same"
     } else {
-        println!(rt; ", differs")
-    }
+        "differs"
+    };
+    println!(rt; "solve_rows {n} {told}, {word}")
 }
 
 fn main(rt: HostRuntime) -> io::Result<()> {
@@ -440,8 +333,8 @@ fn main(rt: HostRuntime) -> io::Result<()> {
         reduced: 10.0,
     };
     let alone = Active {
-        first: Slot::Holds(77),
-        second: Slot::NoRow,
+        first: Some(77),
+        second: None,
     };
     recovers(&rt, "found", &one, 1, from, frame, alone)?;
     recovers(
@@ -463,8 +356,8 @@ fn main(rt: HostRuntime) -> io::Result<()> {
             reduced: 10.0,
         },
         Active {
-            first: Slot::NoRow,
-            second: Slot::Holds(1),
+            first: None,
+            second: Some(1),
         },
     )?;
     recovers(&rt, "two rows of one", &one, 2, from, frame, rows_5_9())?;

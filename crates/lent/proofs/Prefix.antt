@@ -8,8 +8,7 @@ use Rattle.rows.specs.declared.Row.{Row}
 use Rattle.rows.specs.Rows.{zeros, rows_of, flat_of, row_at}
 use Rattle.rows.proofs.Flat.{next_start}
 use Rattle.once.specs.declared.Task.{Task}
-use Rattle.solve.specs.declared.Outcome.{Outcome}
-use Rattle.solve.specs.Solve.{solve}
+use Rattle.solve.specs.Solve.{Outcome, solve}
 use Rattle.lent.specs.Lent.{solve_rows}
 
 -- where the first i rows are those of `from`, so are the first i + 1 once row i is set

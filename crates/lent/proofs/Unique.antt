@@ -12,8 +12,7 @@ use contract.Lifetimes.{Lfts}
 use contract.Monad.{Fun, fact, fact_use, fact_i}
 use denote.Triple.Clauses.{Ended as Contracted, Clauses, AtExit}
 use denote.Triple.Entry.{Args, Res}
-use Rattle.solve.specs.declared.Outcome.{Outcome}
-use Rattle.solve.specs.Solve.{Ended, solve}
+use Rattle.solve.specs.Solve.{Outcome, Ended, solve}
 use Rattle.by_value.specs.ByValue.{kept}
 use Rattle.lent.specs.contracts.clear as clear
 use Rattle.lent.specs.contracts.set_first as set_first

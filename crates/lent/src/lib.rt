@@ -3,20 +3,18 @@
 
 ghost use Rattle.std.specs.Prelude.{◌≡◌, ◌+◌, ◌*◌, ◌≤◌, ◌<◌, length, set, take};
 ghost use Rattle.active.specs.Active.{no_rows, set_first, set_second};
-ghost use Rattle.active.specs.declared.Collector.TheVariants.{On};
 ghost use Rattle.rows.specs.Constants.{most_rows};
 ghost use Rattle.rows.specs.Rows.{rows_of, row_at};
 ghost use Rattle.recover.specs.Recover.{recovering};
 ghost use Rattle.solve.specs.Solve.{solve};
-ghost use Rattle.by_value.specs.ByValue.{kept, answered, remains, few_rows};
+ghost use Rattle.by_value.specs.ByValue.{kept, answered, remains};
 ghost use Rattle.lent.specs.Lent.{solve_rows};
 
-use active::{Active, Collector};
-use by_value::Recovery;
+use active::Active;
 use once::Task;
 use recover::Recovered;
-use rows::{Point, Row};
-use solve::Outcome;
+use rows::{Point, Refusal, Row};
+use solve::{Outcome, Unsolved};
 use step::Frame;
 
 // ---- the collector, a record that is lent: what is stored there, and the entries that store it
@@ -55,10 +53,16 @@ pub fn solve_collecting(rows: &mut [f64], task: Task, allowance: u64, c: &mut Ac
 }
 
 // Recovery from a collector that is on.
-fn recovering(rows: &[f64], upto: usize, at: Point, f: Frame, act: Active) -> Recovered
-    ensures { result ≡ recovering rows.now upto at f (On act) }
+fn recovering(
+    rows: &[f64],
+    upto: usize,
+    at: Point,
+    f: Frame,
+    act: Active,
+) -> Result<Recovered, Refusal>
+    ensures { result ≡ recovering rows.now upto at f (Some act) }
 {
-    recover::recover_2d_prefix(rows, upto, at, f, Collector::On(act))
+    recover::recover_2d_prefix(rows, upto, at, f, Some(act))
 }
 
 // Public: recovery of the rows before `upto` from a point, with the collector lent to it. It is left with the rows of the point
@@ -69,9 +73,9 @@ pub fn recover_collecting(
     at: Point,
     f: Frame,
     c: &mut Active,
-) -> Recovery
-    ensures answer { result ≡ answered (recovering rows.now upto at f (On c.old)) }
-    ensures collected { c.new ≡ remains c.old (recovering rows.now upto at f (On c.old)) }
+) -> Result<Point, Refusal>
+    ensures answer { result ≡ answered (recovering rows.now upto at f (Some c.old)) }
+    ensures collected { c.new ≡ remains c.old (recovering rows.now upto at f (Some c.old)) }
 {
     let r = recovering(rows, upto, at, f, *c);
     *c = by_value::remains(r, *c);
@@ -118,11 +122,8 @@ fn gather(rows: &[Row], flat: &mut [f64], n: usize)
     requires { (n ≤ length rows.now) × (3 * n ≤ length flat.old) }
     ensures { take n (rows_of flat.new) ≡ take n rows.now }
 {
-    let mut k = 0usize;
-    while k < n {
-        let r = get(rows, k);
-        lay(flat, k, r);
-        k += 1;
+    for k in 0..n {
+        lay(flat, k, get(rows, k));
     }
 }
 
@@ -131,11 +132,8 @@ fn scatter(flat: &[f64], rows: &mut [Row], n: usize)
     requires { (3 * n ≤ length flat.now) × (n ≤ length rows.old) }
     ensures { take n rows.new ≡ take n (rows_of flat.now) }
 {
-    let mut k = 0usize;
-    while k < n {
-        let r = lift(flat, k);
-        put(rows, k, r);
-        k += 1;
+    for k in 0..n {
+        put(rows, k, lift(flat, k));
     }
 }
 
@@ -149,27 +147,19 @@ fn solve_first(flat: &mut [f64], n: usize, task: Task, allowance: u64) -> Outcom
     solve::solve(&mut flat[..end], task, allowance)
 }
 
-// By way of the small array.
-fn solve_few(rows: &mut [Row], task: Task, allowance: u64) -> Outcome
-    requires { length rows.old ≤ few_rows }
-    ensures answer { result ≡ (solve_rows task allowance rows.old).outcome }
-    ensures lent { rows.new ≡ (solve_rows task allowance rows.old).rows }
-{
-    let mut flat = [0.0; 3 * by_value::FEW];
-    let n = rows.len();
-    gather(rows, &mut flat, n);
-    let outcome = solve_first(&mut flat, n, task, allowance);
-    scatter(&flat, rows, n);
-    outcome
-}
+// The floats of the most rows that go by way of a small array, which costs little to make.
+const FEW_FLOATS: usize = 3 * by_value::FEW;
 
-// By way of the large array, which holds as many rows as are taken.
-fn solve_most(rows: &mut [Row], task: Task, allowance: u64) -> Outcome
-    requires { length rows.old ≤ most_rows }
+// The floats of the most rows that are taken.
+const MOST_FLOATS: usize = 3 * rows::MOST_ROWS;
+
+// By way of an array of FLOATS floats.
+fn solve_through<const FLOATS: usize>(rows: &mut [Row], task: Task, allowance: u64) -> Outcome
+    requires { (3 * length rows.old ≤ FLOATS) × (FLOATS ≤ 3 * most_rows) }
     ensures answer { result ≡ (solve_rows task allowance rows.old).outcome }
     ensures lent { rows.new ≡ (solve_rows task allowance rows.old).rows }
 {
-    let mut flat = [0.0; 3 * rows::MOST_ROWS];
+    let mut flat = [0.0; FLOATS];
     let n = rows.len();
     gather(rows, &mut flat, n);
     let outcome = solve_first(&mut flat, n, task, allowance);
@@ -184,12 +174,11 @@ pub fn solve_rows(rows: &mut [Row], task: Task, allowance: u64) -> Outcome
     ensures lent { rows.new ≡ (solve_rows task allowance rows.old).rows }
 {
     let n = rows.len();
-    let number = by_value::refusal(n);
-    if number != 0 {
-        return Outcome::Refused(number);
+    if let Some(refusal) = by_value::refusal(n) {
+        return Err(Unsolved::Refused(refusal));
     }
     if by_value::is_few(n) {
-        return solve_few(rows, task, allowance);
+        return solve_through::<FEW_FLOATS>(rows, task, allowance);
     }
-    solve_most(rows, task, allowance)
+    solve_through::<MOST_FLOATS>(rows, task, allowance)
 }

@@ -1,4 +1,5 @@
 -- Rows that are named are there: a reduction over n terms that starts from active rows below n ends with active rows below n.
+use Rattle.std.specs.Prelude.{Option, Some, None}
 use mathlib.Core.Bool.{Bool, true, false}
 use mathlib.Core.List.{List, [], ◌∷◌}
 use Prim.Native.Nat.{ℕ, ◌+◌, ◌≤◌, ◌<◌}
@@ -7,22 +8,18 @@ use lib.ListN.{length}
 use lib.Ieee.{Float}
 use Rattle.readings.specs.Readings.{Counted}
 use Rattle.readings.proofs.Gives.{◌gives◌, either, pure_gives, read_gives}
-use Rattle.active.specs.declared.Slot.{Slot}
-use Rattle.active.specs.declared.Slot.TheVariants.{NoRow, Holds}
 use Rattle.active.specs.declared.Active.{Active}
 use Rattle.line.specs.declared.Term.{Term}
 use Rattle.line.specs.declared.Span.{Span}
-use Rattle.line.specs.declared.Narrowed.{Narrowed}
-use Rattle.line.specs.declared.Narrowed.TheVariants.{Empty, Kept}
 use Rattle.active.specs.Active.{no_rows, set_first, set_second}
 use Rattle.line.specs.Line.{void, narrow, meeting, lp1d_core}
 
 -- ---- active rows
 
 -- the row that is named, if any, is below n
-abbrev pub Below : ℕ → Slot → Type 0
-Below n NoRow = Unit {0}
-Below n (Holds i) = i < n
+abbrev pub Below : ℕ → Option ℕ → Type 0
+Below n None = Unit {0}
+Below n (Some i) = i < n
 
 pub record BothBelow (n : ℕ) (act : Active) : Type 0 where
   pub first : Below n act.first
@@ -46,9 +43,9 @@ module _ {n : ℕ} {act : Active} (k : ℕ) (h : k < n) (below : BothBelow n act
 abbrev pub SpanBelow : ℕ → Span → Type 0
 SpanBelow n s = BothBelow n s.active
 
-abbrev pub NarrowedBelow : ℕ → Narrowed → Type 0
-NarrowedBelow n Empty = Unit {0}
-NarrowedBelow n (Kept s) = SpanBelow n s
+abbrev pub NarrowedBelow : ℕ → Option Span → Type 0
+NarrowedBelow n None = Unit {0}
+NarrowedBelow n (Some s) = SpanBelow n s
 
 module _ {n : ℕ} where
   narrow_below : (cancel : Bool) (ε : Float) (k : ℕ) (t : Term) (s : Span) → k < n → SpanBelow n s → NarrowedBelow n (narrow cancel ε k t s)
@@ -62,11 +59,11 @@ module _ {n : ℕ} where
   meeting_below false ε s below = below
   meeting_below true ε s below = either (SpanBelow n) _ (either (SpanBelow n) _ below below) below
 
-  narrowed_cases : (w : Narrowed) {m : Counted Span} {f : Span → Counted Span} → NarrowedBelow n w → m gives SpanBelow n
+  narrowed_cases : (w : Option Span) {m : Counted Span} {f : Span → Counted Span} → NarrowedBelow n w → m gives SpanBelow n
       → ((s : Span) → SpanBelow n s → f s gives SpanBelow n)
-      → ◌gives◌ {A = Span} (elim w [ Empty ↦ m | Kept s ↦ f s ]) (SpanBelow n)
-  narrowed_cases Empty below h k = h
-  narrowed_cases (Kept s) below h k = k s below
+      → ◌gives◌ {A = Span} (elim w [ None ↦ m | Some s ↦ f s ]) (SpanBelow n)
+  narrowed_cases None below h k = h
+  narrowed_cases (Some s) below h k = k s below
 
   module _ (autonan cancel : Bool) (ε : Float) where
     pub lp1d_core_below : (terms : List Term) (k : ℕ) (s : Span) → k + length terms ≤ n → SpanBelow n s → lp1d_core autonan cancel ε terms k s gives SpanBelow n

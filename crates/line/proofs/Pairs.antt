@@ -1,4 +1,5 @@
 -- Pairs that lie flat in a slice, and a reduction of them, pair by pair.
+use Rattle.std.specs.Prelude.{Some, None}
 use mathlib.Core.Path.{◌≡◌, refl, sym, ap, ◌∙◌}
 use mathlib.Core.Bool.{Bool, false}
 use mathlib.Core.List.{List, [], ◌∷◌}
@@ -12,8 +13,9 @@ use Rattle.float.specs.Float as float
 use Rattle.readings.specs.Readings.{pure, ◌>>◌}
 use Rattle.line.specs.declared.Term.{Term}
 use Rattle.line.specs.declared.Span.{Span}
-use Rattle.line.specs.declared.Narrowed.TheVariants.{Empty, Kept}
-use Rattle.line.specs.Line.{void, narrow, meeting, lp1d_core, pairs_of, pair_at}
+use Rattle.line.specs.declared.Offcut.{Offcut}
+use Rattle.line.specs.Line.{void, cut_off, without, meeting, lp1d_core, pairs_of, pair_at}
+use Rattle.line.proofs.Select.{narrowed}
 use Rattle.line.proofs.Reduction.{kept, emptied}
 
 pub pair_of : (s : List Float) (k : ℕ) → 2 * k + 1 < length s
@@ -34,24 +36,37 @@ pairs_length (a ∷ []) n e = absurd (let z : ⊥ = omega arith in z)
 pairs_length (a ∷ b ∷ s) zero e = absurd (let z : ⊥ = omega arith in z)
 pairs_length (a ∷ b ∷ s) (suc n) e = ap suc (pairs_length s n (omega arith))
 
-module _ (autonan : Bool) (ε : Float) (s : List Float) (n k : ℕ) (v : Span) (whole : 2 * n ≡ length s) where
-  abbrev over : List Term → Span
-  over terms = (lp1d_core autonan false ε terms k v).value
+-- pair k is next, v is left, and with it the pairs give `whole`
+pub record Pairs (autonan : Bool) (ε : Float) (flat : List Float) (k : ℕ) (v whole : Span) : Type 0 where
+  pub gives : (lp1d_core autonan false ε (drop k (pairs_of flat)) k v).value ≡ whole
 
-  pub pairs_end : n ≤ k → over (drop k (pairs_of s)) ≡ meeting autonan ε v
+module _ {autonan : Bool} {ε : Float} {flat : List Float} {k : ℕ} {v whole : Span} (turn : Pairs autonan ε flat k v whole)
+    {n : ℕ} (all : 2 * n ≡ length flat) where
+  pub pairs_end : n ≤ k → meeting autonan ε v ≡ whole
   unfolding lp1d_core pure
-  pairs_end h = ap over (drop_of_length-le (pairs_of s) {i = k} (omega (arith, pairs_length s n whole)))
+  pairs_end h = rw (drop_of_length-le (pairs_of flat) {i = k} (omega (arith, pairs_length flat n all))) at turn.gives
 
   module _ (inside : k < n) where
-    next : drop k (pairs_of s) ≡ pair_at (pairs_of s) k ∷ drop (k + 1) (pairs_of s)
+    abbrev pair : Term
+    pair = pair_at (pairs_of flat) k
+
+    next : drop k (pairs_of flat) ≡ pair ∷ drop (k + 1) (pairs_of flat)
     unfolding pair_at
-    next = drop-cons (pairs_of s) k _ (omega (arith, pairs_length s n whole)) ∙ ap (λ m. pair_at (pairs_of s) k ∷ drop m (pairs_of s)) (sym (add-one k))
+    next =
+        drop-cons (pairs_of flat) k _ (omega (arith, pairs_length flat n all)) ∙ ap (λ m. pair_at (pairs_of flat) k ∷ drop m (pairs_of flat)) (sym (add-one k))
 
-    pub pair_keeps : (w : Span) → narrow false ε k (pair_at (pairs_of s) k) v ≡ Kept w
-        → over (drop k (pairs_of s)) ≡ (lp1d_core autonan false ε (drop (k + 1) (pairs_of s)) (k + 1) w).value
-    unfolding ◌>>◌
-    pair_keeps w e = ap over next ∙ ap (λ m. m.value) (kept autonan false ε (pair_at (pairs_of s) k) (drop (k + 1) (pairs_of s)) k v w e)
+    opened : (lp1d_core autonan false ε (pair ∷ drop (k + 1) (pairs_of flat)) k v).value ≡ whole
+    opened = rw next at turn.gives
 
-    pub pair_empties : narrow false ε k (pair_at (pairs_of s) k) v ≡ Empty → over (drop k (pairs_of s)) ≡ void v
-    unfolding ◌>>◌ pure
-    pair_empties e = ap over next ∙ ap (λ m. m.value) (emptied autonan false ε (pair_at (pairs_of s) k) (drop (k + 1) (pairs_of s)) k v e)
+    module _ {cut : Offcut} (cuts : cut ≡ cut_off false ε pair v.high v.low) where
+      pub pair_keeps : {w : Span} → without k cut v ≡ Some w → Pairs autonan ε flat (k + 1) w whole
+      unfolding ◌>>◌
+      pair_keeps {w} e =
+          let goes = kept autonan false ε pair _ k v w (narrowed false ε k pair v cuts ∙ e) in
+          record { gives = sym (ap (λ m. m.value) goes) ∙ opened }
+
+      pub pair_empties : without k cut v ≡ None → void v ≡ whole
+      unfolding ◌>>◌ pure
+      pair_empties e =
+          let ends = emptied autonan false ε pair _ k v (narrowed false ε k pair v cuts ∙ e) in
+          sym (ap (λ m. m.value) ends) ∙ opened

@@ -1,10 +1,10 @@
 -- `lp_1d` answers with an infinity at an end that no pair bounds. Assumes nothing.
+use Rattle.std.specs.Prelude.{Some, None, Ok}
 use mathlib.Core.Path.{◌≡◌, refl, sym, ap, ◌∙◌}
 use mathlib.Core.Logic.{⊎_elim}
 use mathlib.Core.Bool.{Bool, true, false, not, true≢false}
 use mathlib.Core.List.{List, [], ◌∷◌}
 use Prim.Native.Nat.{ℕ, ◌+◌}
-use borrow.Author.Tests.{eq-eqb}
 use lib.ListN.{length}
 use lib.Ieee.{Float, nan, inf, fin, neg, of_bits, add, mul, lt, le}
 use Rattle.float.specs.Operators.{when◌then◌else◌, ◌⊗◌, ◌⊘◌, ◌≺◌, ◌≻◌}
@@ -16,9 +16,7 @@ use Rattle.rows.specs.Constants.{eps_rounding}
 use Rattle.rows.specs.Rows.{refusal}
 use Rattle.line.specs.declared.Term.{Term}
 use Rattle.line.specs.declared.Span.{Span}
-use Rattle.line.specs.declared.Narrowed.TheVariants.{Kept}
 use Rattle.line.specs.declared.Tolerances.{Tolerances}
-use Rattle.line.specs.declared.Bounds.TheVariants.{Between}
 use Rattle.active.specs.Active.{no_rows, set_first, set_second}
 use Rattle.line.specs.Line.{whole_line, coefficient_is_zero, narrow, meeting, lp1d_core, pairs_of, lp1d}
 use Rattle.line.proofs.Reduction.{kept}
@@ -51,11 +49,11 @@ above_all x = ⊎_elim (λ e. e ∙ highest x e (rw e at (max_picks.none_before 
     highest (fin s m e) e' h = absurd (true≢false h)
 
 module _ (ε : Float) where
-  holds_narrows : (k : ℕ) (t : Term) (s : Span) → Holds ε t → narrow false ε k t s ≡ Kept s
+  holds_narrows : (k : ℕ) (t : Term) (s : Span) → Holds ε t → narrow false ε k t s ≡ Some s
   unfolding narrow when◌then◌else◌
   holds_narrows k t s h = rw (h.none, h.holds)
 
-  leaves_end : (up : Bool) (k : ℕ) (t : Term) (s : Span) → Leaves up ε t → (w : Span) × (narrow false ε k t s ≡ Kept w) × (end up w ≡ end up s)
+  leaves_end : (up : Bool) (k : ℕ) (t : Term) (s : Span) → Leaves up ε t → (w : Span) × (narrow false ε k t s ≡ Some w) × (end up w ≡ end up s)
   unfolding narrow when◌then◌else◌
   leaves_end up k t s (neither h) = (s, holds_narrows k t s h, refl)
   leaves_end true k t s (other h a) =
@@ -86,25 +84,31 @@ module _ (ε : Float) where
   whole_meets false = refl
   whole_meets true = rw (above_all ε)
 
-module _ (tol : Tolerances) (flat : List Float) (taken : refusal 2 (length flat) ≡ 0) where
+module _ (tol : Tolerances) (flat : List Float) (taken : refusal 2 (length flat) ≡ None) where
   abbrev found : Bool → Span
   found autonan = (lp1d_core autonan false tol.feasibility (pairs_of flat) 0 (whole_line no_rows)).value
 
-  answer : (autonan : Bool) → lp1d autonan tol flat ≡ Between (found autonan).high (found autonan).low
-  unfolding lp1d when◌then◌else◌
-  answer autonan = rw (eq-eqb _ 0 taken)
+  answer : (autonan : Bool) → lp1d autonan tol flat ≡ Ok (record { high = (found autonan).high; low = (found autonan).low })
+  unfolding lp1d
+  answer autonan = rw taken
 
   -- no pair bounds it from above, or from below
-  pub unbounded_above : Every (Leaves true tol.feasibility) (pairs_of flat) → (low : Float) × (lp1d false tol flat ≡ Between (inf false) low)
+  pub unbounded_above : Every (Leaves true tol.feasibility) (pairs_of flat)
+      → (low : Float) × (lp1d false tol flat ≡ Ok (record { high = inf false; low = low }))
   unfolding whole_line when◌then◌else◌
-  unbounded_above h = (_, answer false ∙ ap (λ x. Between x (found false).low) (reduction_leaves _ true (pairs_of flat) 0 _ h))
+  unbounded_above h =
+      (_, answer false ∙ ap (λ x. Ok (record { high = x; low = (found false).low })) (reduction_leaves _ true (pairs_of flat) 0 _ h))
 
-  pub unbounded_below : Every (Leaves false tol.feasibility) (pairs_of flat) → (high : Float) × (lp1d false tol flat ≡ Between high (inf true))
+  pub unbounded_below : Every (Leaves false tol.feasibility) (pairs_of flat)
+      → (high : Float) × (lp1d false tol flat ≡ Ok (record { high = high; low = inf true }))
   unfolding whole_line when◌then◌else◌
-  unbounded_below h = (_, answer false ∙ ap (λ x. Between (found false).high x) (reduction_leaves _ false (pairs_of flat) 0 _ h))
+  unbounded_below h =
+      (_, answer false ∙ ap (λ x. Ok (record { high = (found false).high; low = x })) (reduction_leaves _ false (pairs_of flat) 0 _ h))
 
   -- no pair bounds it at all, also with AUTONAN
-  pub unbounded : (autonan : Bool) → Every (Holds tol.feasibility) (pairs_of flat) → lp1d autonan tol flat ≡ Between (inf false) (inf true)
+  pub unbounded : (autonan : Bool) → Every (Holds tol.feasibility) (pairs_of flat)
+      → lp1d autonan tol flat ≡ Ok (record { high = inf false; low = inf true })
   unfolding whole_line
   unbounded autonan h =
-      answer autonan ∙ ap (λ s. Between s.high s.low) (reduction_holds _ autonan (pairs_of flat) 0 _ h ∙ whole_meets _ autonan)
+      answer autonan
+      ∙ ap (λ s. Ok (record { high = s.high; low = s.low })) (reduction_holds _ autonan (pairs_of flat) 0 _ h ∙ whole_meets _ autonan)

@@ -1,12 +1,14 @@
 -- `lp_1d_core`, for the rows on a pinned line and for pairs, and `lp_1d`. Assumes nothing.
-use Rattle.std.specs.Prelude.{ℕ, ◌+◌, Bool, true, false, List, [], ◌∷◌, eqb, length, get_or, Float}
+use Rattle.std.specs.Prelude.{ℕ, ◌+◌, Option, Some, None, Result, Bool, true, false, List, [], ◌∷◌, length, get_or, Float}
 use Rattle.std.specs.Float.{nan, inf}
 use Rattle.std.specs.Float.Ieee.{neg}
 use Rattle.float.specs.Operators.{when◌then◌else◌, ◌⊕◌, ◌⊗◌, ◌⊘◌, ◌≺◌, ◌≼◌, ◌≻◌}
 use Rattle.float.specs.Float.{zero, one, abs, max, clamp}
-use Rattle.readings.specs.Readings.{Counted, pure, read, ◌>>◌, Paid, paid, stopped}
+use Rattle.readings.specs.Readings.{Counted, pure, read, ◌>>◌}
 use Rattle.rows.specs.Constants.{eps_zero, eps_normalize, eps_rounding, ccw_errbound_a, half}
 use Rattle.rows.specs.declared.Row.{Row}
+use Rattle.rows.specs.declared.Refusal.{Refusal}
+use Rattle.rows.specs.Refusals.{unless}
 use Rattle.rows.specs.Rows.{refusal}
 use Rattle.active.specs.Active.{no_rows, set_first, set_second}
 use Rattle.active.specs.declared.Active.{Active}
@@ -14,13 +16,8 @@ use Rattle.line.specs.declared.Term.{Term}
 use Rattle.line.specs.declared.Span.{Span}
 use Rattle.line.specs.declared.Offcut.{Offcut}
 use Rattle.line.specs.declared.Offcut.TheVariants.{Nothing, All, Above, Below}
-use Rattle.line.specs.declared.Narrowed.{Narrowed}
-use Rattle.line.specs.declared.Narrowed.TheVariants.{Empty, Kept}
-use Rattle.line.specs.declared.Reduced.{Reduced}
-use Rattle.line.specs.declared.Reduced.TheVariants as ReducedIs
 use Rattle.line.specs.declared.Tolerances.{Tolerances}
 use Rattle.line.specs.declared.Bounds.{Bounds}
-use Rattle.line.specs.declared.Bounds.TheVariants.{Between, Refused}
 
 -- ---- one dimension
 
@@ -37,12 +34,12 @@ coefficient_is_zero true t = abs t.a ≼ ccw_errbound_a ⊗ t.scale
 coefficient_is_zero false t = abs t.a ≺ clamp (abs t.b) eps_normalize one ⊗ eps_zero
 
 -- term k narrows a span; one with no coefficient that fails leaves nothing
-unfoldable pub narrow : Bool → Float → ℕ → Term → Span → Narrowed
+unfoldable pub narrow : Bool → Float → ℕ → Term → Span → Option Span
 narrow cancel ε k t s =
-    when coefficient_is_zero cancel t then (when t.b ≺ neg ε then Empty else Kept s)
+    when coefficient_is_zero cancel t then (when t.b ≺ neg ε then None else Some s)
     else when t.a ≻ zero then
-    Kept (when t.b ≺ s.high ⊗ t.a then record { high = t.b ⊘ t.a; low = s.low; active = set_first k s.active } else s)
-    else Kept (when t.b ≺ s.low ⊗ t.a then record { high = s.high; low = t.b ⊘ t.a; active = set_second k s.active } else s)
+    Some (when t.b ≺ s.high ⊗ t.a then record { high = t.b ⊘ t.a; low = s.low; active = set_first k s.active } else s)
+    else Some (when t.b ≺ s.low ⊗ t.a then record { high = s.high; low = t.b ⊘ t.a; active = set_second k s.active } else s)
 
 -- with AUTONAN, ends that cross within tolerance meet in the middle, and others leave nothing
 unfoldable pub meeting : Bool → Float → Span → Span
@@ -57,7 +54,7 @@ meeting true ε s =
 unfoldable pub lp1d_core : Bool → Bool → Float → List Term → ℕ → Span → Counted Span
 lp1d_core autonan cancel ε [] k s = pure (meeting autonan ε s)
 lp1d_core autonan cancel ε (t ∷ ts) k s =
-    read 1 >> (elim (narrow cancel ε k t s) as (λ _. Counted Span) [ Empty ↦ pure (void s) | Kept s' ↦ lp1d_core autonan cancel ε ts (k + 1) s' ])
+    read 1 >> (elim (narrow cancel ε k t s) as (λ _. Counted Span) [ None ↦ pure (void s) | Some s' ↦ lp1d_core autonan cancel ε ts (k + 1) s' ])
 
 -- ---- rows on a pinned line
 
@@ -82,15 +79,11 @@ cut_off cancel ε t high low =
     else when t.a ≻ zero then (when t.b ≺ high ⊗ t.a then Above (t.b ⊘ t.a) else Nothing)
     else when t.b ≺ low ⊗ t.a then Below (t.b ⊘ t.a) else Nothing
 
-unfoldable pub without : ℕ → Offcut → Span → Narrowed
-without k Nothing s = Kept s
-without k All s = Empty
-without k (Above v) s = Kept (record { high = v; low = s.low; active = set_first k s.active })
-without k (Below v) s = Kept (record { high = s.high; low = v; active = set_second k s.active })
-
-unfoldable pub reduced : Paid Span → Reduced
-reduced (paid s left) = ReducedIs.Done s left
-reduced stopped = ReducedIs.Spent
+unfoldable pub without : ℕ → Offcut → Span → Option Span
+without k Nothing s = Some s
+without k All s = None
+without k (Above v) s = Some (record { high = v; low = s.low; active = set_first k s.active })
+without k (Below v) s = Some (record { high = s.high; low = v; active = set_second k s.active })
 
 -- ---- pairs
 
@@ -103,8 +96,7 @@ pairs_of (a ∷ b ∷ rest) = record { a = a; b = b; scale = zero } ∷ pairs_of
 unfoldable pub pair_at : List Term → ℕ → Term
 pair_at terms k = get_or terms k (record { a = zero; b = zero; scale = zero })
 
-unfoldable pub lp1d : Bool → Tolerances → List Float → Bounds
+unfoldable pub lp1d : Bool → Tolerances → List Float → Result Bounds Refusal
 lp1d autonan tol flat =
-    let number = refusal 2 (length flat) in
     let s = (lp1d_core autonan false tol.feasibility (pairs_of flat) 0 (whole_line no_rows)).value in
-    when eqb number 0 then Between s.high s.low else Refused number
+    unless (refusal 2 (length flat)) (record { high = s.high; low = s.low })

@@ -5,10 +5,11 @@ ghost use Rattle.std.specs.Prelude.{◌≡◌, true, false, map, ◌+◌, ◌*�
 ghost use Rattle.readings.specs.Readings.{within};
 ghost use Rattle.rows.specs.Rows.{rows_of};
 ghost use Rattle.active.specs.Active.{no_rows};
-ghost use Rattle.line.specs.Line.{whole_line, void, coefficient_is_zero, cut_off, meeting, lp1d_core, on_line, reduced, pairs_of, pair_at, lp1d};
+ghost use Rattle.line.specs.Line.{whole_line, void, coefficient_is_zero, cut_off, meeting, lp1d_core, on_line, pairs_of, pair_at, lp1d};
 
-use active::{Active, Slot};
-use rows::Row;
+use active::Active;
+use readings::{Paid, Spent};
+use rows::{Refusal, Row};
 
 // a*t <= b, and the size of the terms that cancelled into a.
 #[derive(Clone, Copy)]
@@ -35,20 +36,6 @@ pub enum Offcut {
     Below(f64),
 }
 
-// What a term leaves of a span.
-#[derive(Clone, Copy)]
-pub enum Narrowed {
-    Empty,
-    Kept(Span),
-}
-
-// A span and the readings left; or too few were left.
-#[derive(Clone, Copy)]
-pub enum Reduced {
-    Done(Span, u64),
-    Spent,
-}
-
 // The feasibility tolerance, and the factor by which it is scaled where a step goes from two dimensions to one.
 #[derive(Clone, Copy)]
 pub struct Tolerances {
@@ -56,22 +43,20 @@ pub struct Tolerances {
     pub scale: f64,
 }
 
-// What `lp_1d` answers: the highest and the lowest number, or a refusal by its number.
+// The highest and the lowest number.
 #[derive(Clone, Copy)]
-pub enum Bounds {
-    Between(f64, f64),
-    Refused(u64),
+pub struct Bounds {
+    pub high: f64,
+    pub low: f64,
 }
 
 fn void(s: Span) -> Span
     ensures { result ≡ void s }
 {
-    let none = float::nan();
-    let kept = s.active;
     Span {
-        high: none,
-        low: none,
-        active: kept,
+        high: float::nan(),
+        low: float::nan(),
+        ..s
     }
 }
 
@@ -108,7 +93,7 @@ fn cut_off(cancel: bool, eps: f64, t: Term, high: f64, low: f64) -> Offcut
     Offcut::Nothing
 }
 
-fn between(high: f64, low: f64, first: Slot, second: Slot) -> Span
+fn between(high: f64, low: f64, first: Option<usize>, second: Option<usize>) -> Span
     ensures { result ≡ record { high = high; low = low; active = record { first = first; second = second } } }
 {
     Span {
@@ -128,7 +113,6 @@ fn meeting(autonan: bool, eps: f64, s: Span) -> Span
     if autonan {
         let high = s.high;
         let low = s.low;
-        let act = s.active;
         let size = float::abs(low) + float::abs(high);
         let room = float::max(eps, 1e-13 * size);
         if low <= high + room {
@@ -139,7 +123,7 @@ fn meeting(autonan: bool, eps: f64, s: Span) -> Span
             return Span {
                 high: middle,
                 low: middle,
-                active: act,
+                ..s
             };
         }
         return void(s);
@@ -182,9 +166,9 @@ pub fn lp_1d_core(
     eps: f64,
     act: Active,
     left: u64,
-) -> Reduced
+) -> Paid<Span>
     requires { 3 * upto ≤ length rows.now }
-    ensures { result ≡ reduced (within left (lp1d_core steep true eps (map (on_line steep p q) (take upto (rows_of rows.now))) 0 (whole_line act))) }
+    ensures { result ≡ within left (lp1d_core steep true eps (map (on_line steep p q) (take upto (rows_of rows.now))) 0 (whole_line act)) }
 {
     let start = active::fresh(act);
     let mut high = float::infinity();
@@ -192,10 +176,10 @@ pub fn lp_1d_core(
     let mut first = start.first;
     let mut second = start.second;
     let mut rest = left;
-    let mut k = 0usize;
-    while k < upto {
+    for k in 0..upto {
+        // No call of `pay` in this loop: a `Result` that holds a number costs four instructions a row.
         if rest == 0 {
-            return Reduced::Spent;
+            return Err(Spent);
         }
         rest -= 1;
         let t = on_line(steep, p, q, rows::row_at(rows, k));
@@ -203,19 +187,18 @@ pub fn lp_1d_core(
             Offcut::Nothing => {}
             Offcut::Above(v) => {
                 high = v;
-                first = Slot::Holds(k);
+                first = Some(k);
             }
             Offcut::Below(v) => {
                 low = v;
-                second = Slot::Holds(k);
+                second = Some(k);
             }
             Offcut::All => {
-                return Reduced::Done(void(between(high, low, first, second)), rest);
+                return Ok((void(between(high, low, first, second)), rest));
             }
         }
-        k += 1;
     }
-    Reduced::Done(meeting(steep, eps, between(high, low, first, second)), rest)
+    Ok((meeting(steep, eps, between(high, low, first, second)), rest))
 }
 
 // ---- pairs
@@ -242,40 +225,35 @@ fn span_of(pairs: &[f64], n: usize, autonan: bool, eps: f64) -> Span
 {
     let mut high = float::infinity();
     let mut low = -high;
-    let mut first = Slot::NoRow;
-    let mut second = Slot::NoRow;
-    let mut k = 0usize;
-    while k < n {
+    let mut first = None;
+    let mut second = None;
+    for k in 0..n {
         match cut_off(false, eps, pair_at(pairs, k), high, low) {
             Offcut::Nothing => {}
             Offcut::Above(v) => {
                 high = v;
-                first = Slot::Holds(k);
+                first = Some(k);
             }
             Offcut::Below(v) => {
                 low = v;
-                second = Slot::Holds(k);
+                second = Some(k);
             }
             Offcut::All => {
                 return void(between(high, low, first, second));
             }
         }
-        k += 1;
     }
     meeting(autonan, eps, between(high, low, first, second))
 }
 
 // Public: the highest and the lowest t with a*t <= b for every pair a, b; refusals 1 and 2.
-pub fn lp_1d(pairs: &[f64], autonan: bool, tol: Tolerances) -> Bounds
+pub fn lp_1d(pairs: &[f64], autonan: bool, tol: Tolerances) -> Result<Bounds, Refusal>
     ensures { result ≡ lp1d autonan tol pairs.now }
 {
-    let number = rows::refusal(2, pairs.len());
-    if number != 0 {
-        return Bounds::Refused(number);
-    }
-    let n = pairs.len() / 2;
+    let n = rows::count(2, pairs.len())?;
     let s = span_of(pairs, n, autonan, tol.feasibility);
-    let high = float::settled(s.high);
-    let low = float::settled(s.low);
-    Bounds::Between(high, low)
+    Ok(Bounds {
+        high: float::settled(s.high),
+        low: float::settled(s.low),
+    })
 }

@@ -11,7 +11,7 @@ use reader::Link;
 pub const LINE: usize = text::LONGEST_LINE + text::LONGEST_END;
 
 // What an entry leaves: the refusal's number, 0 where there is none; how many bytes of the portion it took; how many bytes it printed at
-// the start of what was lent for them; and the link.
+// the start of what was lent for them; and the link. C is handed this record, so that it is no `Result`.
 #[repr(C)]
 #[derive(Clone, Copy)]
 pub struct Fed {
@@ -118,6 +118,7 @@ pub fn fill(
     let mut now = link;
     let mut from = 0;
     let mut at = 0;
+    // No `for`: a turn steps by as many bytes as it took.
     while from < bytes.len() {
         if out.len() - at < text::LONGEST_LINE {
             break;

@@ -1,60 +1,55 @@
--- Preparing and both passes, case by case: what the code does next is what the definition says.
-use mathlib.Core.Path.{◌≡◌, ◌∙◌}
-use mathlib.Core.List.{List}
-use Prim.Native.Nat.{ℕ, ◌*◌, ◌≤◌, ◌<◌}
+-- Preparing: what was paid for it says which rows it leaves.
+use mathlib.Core.Path.{◌≡◌, refl, ap}
+use mathlib.Core.List.{List, [], ◌∷◌}
+use Prim.Native.Nat.{ℕ, ◌-◌, ◌*◌}
 use native.Mathlib.Omega.{arith}
-use lib.ListN.{length, drop}
+use lib.ListN.{length}
 use lib.Ieee.{Float}
-use Rattle.readings.specs.Readings.{Paid, paid, stopped, within}
-use Rattle.readings.proofs.Laws.{within-pure, reading_stops, reading_fits, goes_on, goes_no_further}
+use borrow.Author.Tests.{le-leb}
+use Rattle.std.specs.Prelude.{Ok, Err}
+use Rattle.float.specs.Operators.{when◌then◌else◌}
+use Rattle.readings.specs.Readings.{Counted, pure, read, ◌>>◌, within, paying}
+use Rattle.readings.specs.declared.Spent.{Spent}
+use Rattle.readings.proofs.Laws.{pays, pays_nothing}
 use Rattle.rows.specs.declared.Row.{Row}
 use Rattle.rows.specs.Rows.{rows_of, flat_of, normalized}
 use Rattle.rows.proofs.Lengths.{length-rows_of}
-use Rattle.active.specs.Active.{no_rows}
-use Rattle.step.specs.declared.Frame.{Frame}
-use Rattle.step.specs.declared.State.{State}
-use Rattle.step.specs.declared.Found.{Found}
-use Rattle.step.specs.declared.Found.TheVariants.{Failed, Done}
-use Rattle.step.specs.Step.{onward, ◌>>?◌}
-use Rattle.passes.specs.Passes.{frame, forward}
-use Rattle.passes.specs.Passes.{deferred}
-use Rattle.once.specs.declared.Normalize.TheVariants.{Source}
-use Rattle.once.specs.declared.Task.{Task}
-use Rattle.once.specs.Once.{prepared, begun, passes, preparing, paying, leaves}
+use Rattle.once.specs.declared.Normalize.{Normalize}
+use Rattle.once.specs.declared.Normalize.TheVariants.{Off, Source}
+use Rattle.once.specs.Once.{prepared, leaves}
 
--- rows are normalised where a reading is left for each, and else none is written
-module _ (left n : ℕ) (flat : List Float) (even : 3 * n ≡ length flat) where
-  abbrev ready : Paid (List Row)
-  ready = within left (prepared Source (rows_of flat))
+pub rows_again : (rows : List Row) → rows_of (flat_of rows) ≡ rows
+unfolding rows_of flat_of
+rows_again [] = refl
+rows_again (r ∷ rows) = ap (λ l. r ∷ l) (rows_again rows)
 
-  all : length (rows_of flat) ≡ n
-  all = omega (arith, length-rows_of flat)
+-- preparing takes a reading for each row where it normalises, and none where it does not
+pub off_is_free : (left : ℕ) (rows : List Row) → paying left (prepared Off rows).readings ≡ Ok left
+unfolding prepared pure paying when◌then◌else◌
+off_is_free left rows = rw (le-leb 0 left (omega arith)) (ap Ok (let all : left - 0 ≡ left = omega arith in all))
 
-  pub normalises_paid : n ≤ left → (paying left n ≡ preparing ready) × (leaves flat ready ≡ flat_of (normalized (rows_of flat)))
-  unfolding prepared preparing paying leaves
-  normalises_paid fits = (rw (all, reading_fits, within-pure, reading_fits, within-pure), rw (all, reading_fits, within-pure))
+pub off_leaves : (rows : List Row) → (prepared Off rows).value ≡ rows
+unfolding prepared pure
+off_leaves rows = refl
 
-  pub normalises_unpaid : left < n → (paying left n ≡ preparing ready) × (leaves flat ready ≡ flat)
-  unfolding prepared preparing paying leaves
-  normalises_unpaid short = (rw (all, reading_stops, reading_stops), rw (all, reading_stops))
+module _ (flat : List Float) (n : ℕ) (even : 3 * n ≡ length flat) where
+  pub source_takes : (prepared Source (rows_of flat)).readings ≡ n
+  unfolding prepared read pure ◌>>◌
+  source_takes = omega (arith, length-rows_of flat)
 
-module _ (T : Task) (R : List Row) (bound : Float) (left : ℕ) where
-  abbrev F : Frame
-  F = frame bound T.tol.feasibility T.tol.scale
+pub source_normalises : (rows : List Row) → (prepared Source rows).value ≡ normalized rows
+unfolding prepared pure ◌>>◌
+source_normalises rows = refl
 
-  -- the forward pass
-  abbrev advancing : Paid Found
-  advancing =
-      within left (forward T.tol.scale R F (drop T.start.skip R) T.start.skip (record { at = begun T.start bound; active = no_rows }))
+-- where it was paid the rows are as it makes them, and else as they were
+module _ (left : ℕ) (mode : Normalize) (flat : List Float) where
+  abbrev ready : Counted (List Row)
+  ready = prepared mode (rows_of flat)
 
-  pub passes_spent : advancing ≡ stopped → within left (passes T R bound) ≡ stopped
-  unfolding passes ◌>>?◌
-  passes_spent e = goes_no_further left _ _ e
+  pub leaves_prepared : {rest : ℕ} → paying left ready.readings ≡ Ok rest → leaves flat (within left ready) ≡ flat_of ready.value
+  unfolding leaves
+  leaves_prepared e = rw (pays left ready e)
 
-  pub passes_failed : {l : ℕ} → advancing ≡ paid Failed l → within left (passes T R bound) ≡ paid Failed l
-  unfolding passes ◌>>?◌ onward
-  passes_failed {l} e = goes_on left _ _ e ∙ within-pure l Failed
-
-  pub passes_go_on : {s : State} {l : ℕ} → advancing ≡ paid (Done s) l → within left (passes T R bound) ≡ within l (deferred 4 R F s)
-  unfolding passes ◌>>?◌ onward
-  passes_go_on e = goes_on left _ _ e
+  pub leaves_as_lent : {e : Spent} → paying left ready.readings ≡ Err e → leaves flat (within left ready) ≡ flat
+  unfolding leaves
+  leaves_as_lent e = rw (pays_nothing left ready e)

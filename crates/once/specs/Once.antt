@@ -1,26 +1,21 @@
 -- `lp_2d_incre_max_y_once`: one solve over one box. Assumes nothing.
-use Rattle.std.specs.Prelude.{ℕ, Bool, false, ◌&&◌, ◌||◌, List, [], ◌∷◌, length, drop, Float}
+use Rattle.std.specs.Prelude.{Option, Some, None, Ok, Err, Bool, false, ◌&&◌, ◌||◌, List, [], ◌∷◌, length, drop, Float}
 use Rattle.std.specs.Float.{nan}
 use Rattle.float.specs.Operators.{when◌then◌else◌, ◌⊗◌, ◌⊘◌, ◌≺◌, ◌≼◌, ◌≻◌, ◌≈◌}
 use Rattle.float.specs.Float.{abs, finite, max}
-use Rattle.readings.specs.Readings.{Counted, pure, read, ◌>>◌, Paid, paid, stopped, within}
+use Rattle.readings.specs.Readings.{Counted, pure, read, ◌>>=◌, ◌>>◌, Paid}
 use Rattle.rows.specs.Constants.{eps_zero, lp_bound, lp_box_growth, half, max_deferred_rounds}
 use Rattle.rows.specs.declared.Row.{Row}
 use Rattle.rows.specs.declared.Point.{Point}
 use Rattle.rows.specs.Rows.{flat_of, normalized}
 use Rattle.active.specs.Active.{no_rows}
 use Rattle.step.specs.declared.State.{State}
-use Rattle.step.specs.declared.Found.{Found}
-use Rattle.step.specs.declared.Found.TheVariants.{Failed, Done}
 use Rattle.step.specs.Step.{◌>>?◌}
 use Rattle.once.specs.declared.WarmStart.{WarmStart}
 use Rattle.once.specs.declared.Normalize.{Normalize}
 use Rattle.once.specs.declared.Normalize.TheVariants.{Off, Source}
 use Rattle.once.specs.declared.Task.{Task}
-use Rattle.once.specs.declared.Prepared.{Prepared}
-use Rattle.once.specs.declared.Prepared.TheVariants as PreparedIs
 use Rattle.once.specs.declared.Round.{Round}
-use Rattle.once.specs.declared.Round.TheVariants as round_is
 use Rattle.passes.specs.Passes.{frame, forward}
 use Rattle.passes.specs.Passes.{deferred}
 
@@ -40,7 +35,7 @@ unfoldable pub begun : WarmStart → Float → Point
 begun start bound = record { x = start.x; y = when start.y ≈ lp_bound && bound ≻ lp_bound then bound else start.y }
 
 -- both passes, over two rows or more as they stand
-unfoldable pub passes : Task → List Row → Float → Counted Found
+unfoldable pub passes : Task → List Row → Float → Counted (Option State)
 passes T R bound =
     let F = frame bound T.tol.feasibility T.tol.scale in
     let start : State = record { at = begun T.start bound; active = no_rows } in
@@ -50,19 +45,19 @@ passes T R bound =
 unfoldable pub saturated : Point → Float → Bool
 saturated p bound = let edge = half ⊗ bound in finite p.x && finite p.y && (edge ≼ p.y || edge ≼ abs p.x)
 
-unfoldable pub on_box : Float → Found → Bool
-on_box bound Failed = false
-on_box bound (Done s) = saturated s.at bound
+unfoldable pub on_box : Float → Option State → Bool
+on_box bound None = false
+on_box bound (Some s) = saturated s.at bound
 
 -- what one solve does: the rows as it prepares them, what its passes find, and whether that sits on its box
 pub record Once : Type 0 where
   pub rows : Counted (List Row)
-  pub run : Counted Found
+  pub run : Counted (Option State)
   pub saturated : Bool
 
 -- one row alone bounds y where it is level
-unfoldable pub lone : Row → Found
-lone r = when abs r.a ≺ eps_zero && r.b ≻ eps_zero then Done (record { at = record { x = nan; y = r.c ⊘ r.b }; active = no_rows }) else Failed
+unfoldable pub lone : Row → Option State
+lone r = when abs r.a ≺ eps_zero && r.b ≻ eps_zero then Some (record { at = record { x = nan; y = r.c ⊘ r.b }; active = no_rows }) else None
 
 unfoldable pub many : Task → List Row → Float → Once
 many T rows bound =
@@ -73,31 +68,20 @@ many T rows bound =
 
 -- with no row, or one, nothing is normalised, and the count is the row count
 unfoldable pub once : Task → List Row → Float → Once
-once T [] bound = record { rows = pure []; run = pure Failed; saturated = false }
+once T [] bound = record { rows = pure []; run = pure None; saturated = false }
 once T (r ∷ []) bound = record { rows = pure (r ∷ []); run = read 1 >> pure (lone r); saturated = false }
 once T (r ∷ s ∷ rows) bound = many T (r ∷ s ∷ rows) bound
 
 -- ---- what the code gives back
 
-unfoldable pub preparing : Paid (List Row) → Prepared
-preparing (paid rows left) = PreparedIs.Done left
-preparing stopped = PreparedIs.Spent
-
--- so many readings taken off those left
-unfoldable pub paying : ℕ → ℕ → Prepared
-paying left readings = preparing (within left (read readings >> pure []))
-
 -- what preparing leaves in the lent floats: nothing is written where the readings do not fit
 unfoldable pub leaves : List Float → Paid (List Row) → List Float
-leaves flat (paid rows left) = flat_of rows
-leaves flat stopped = flat
+leaves flat (Ok p) = flat_of p.0
+leaves flat (Err e) = flat
 
-unfoldable pub rounded : Float → Paid Found → Round
-rounded wide (paid Failed left) = round_is.Off Failed left
-rounded wide (paid (Done s) left) = when saturated s.at wide then round_is.OnBox s left else round_is.Off (Done s) left
-rounded wide stopped = round_is.Spent
+-- a solve over one box, of the rows as they were prepared, and of the rows as they stand
+unfoldable pub one_round : Task → List Row → Float → Counted Round
+one_round T R wide = passes T R wide >>= λ found. pure (record { found = found; sits_on_box = on_box wide found })
 
--- a solve over one box, of the rows as they were prepared
-unfoldable pub rounding : Task → Float → Paid (List Row) → Round
-rounding T bound (paid R left) = let wide = widened T.start bound in rounded wide (within left (passes T R wide))
-rounding T bound stopped = round_is.Spent
+unfoldable pub solving_once : Task → Normalize → List Row → Float → Counted Round
+solving_once T mode rows bound = prepared mode rows >>= λ R. one_round T R (widened T.start bound)

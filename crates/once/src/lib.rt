@@ -5,12 +5,13 @@ ghost use Rattle.std.specs.Prelude.{◌≡◌, ◌&&◌, ◌*◌, length};
 ghost use Rattle.float.specs.Float.{finite};
 ghost use Rattle.readings.specs.Readings.{within};
 ghost use Rattle.rows.specs.Rows.{rows_of};
-ghost use Rattle.step.specs.Step.{stepped};
-ghost use Rattle.once.specs.Once.{prepared, preparing, paying, leaves, widened, begun, passes, saturated, rounded, rounding, lone};
+ghost use Rattle.readings.specs.Readings.{paying};
+ghost use Rattle.once.specs.Once.{prepared, leaves, widened, begun, passes, saturated, one_round, solving_once, lone};
 
 use line::Tolerances;
+use readings::{Paid, Spent};
 use rows::{Point, Row};
-use step::{Found, State, Stepped};
+use step::State;
 
 // Where a solve starts, and how many leading rows its forward pass skips.
 #[derive(Clone, Copy)]
@@ -34,45 +35,25 @@ pub struct Task {
     pub normalize: Normalize,
 }
 
-// The rows are prepared, with the readings left; or too few were left, and nothing was written.
+// What a solve over one box found, and whether that sits on the box.
 #[derive(Clone, Copy)]
-pub enum Prepared {
-    Done(u64),
-    Spent,
+pub struct Round {
+    pub found: Option<State>,
+    pub sits_on_box: bool,
 }
 
-// One solve over one box: what it found, off the box or on it, with the readings left; or too few were left.
-#[derive(Clone, Copy)]
-pub enum Round {
-    Off(Found, u64),
-    OnBox(State, u64),
-    Spent,
-}
-
-// So many readings taken off those left, or too few are left.
-fn pay(left: u64, readings: u64) -> Prepared
-    ensures { result ≡ paying left readings }
-{
-    if left < readings {
-        return Prepared::Spent;
-    }
-    Prepared::Done(left - readings)
-}
-
-// The n rows as a solve works on them. Normalising writes no row unless all its readings are left.
-fn prepare(rows: &mut [f64], n: usize, mode: Normalize, left: u64) -> Prepared
+// The n rows as a solve works on them, and the readings left then. Normalising writes no row unless all its readings are left.
+fn prepare(rows: &mut [f64], n: usize, mode: Normalize, left: u64) -> Result<u64, Spent>
     requires { 3 * n ≡ length rows.old }
-    ensures answer { result ≡ preparing (within left (prepared mode (rows_of rows.old))) }
+    ensures answer { result ≡ paying left (prepared mode (rows_of rows.old)).readings }
     ensures lent { rows.new ≡ leaves rows.old (within left (prepared mode (rows_of rows.old))) }
 {
     match mode {
-        Normalize::Off => Prepared::Done(left),
+        Normalize::Off => Ok(left),
         Normalize::Source => {
-            let readings = n as u64;
-            if readings <= left {
-                rows::normalize(rows, n);
-            }
-            pay(left, readings)
+            let rest = readings::pay(left, n as u64)?;
+            rows::normalize(rows, n);
+            Ok(rest)
         }
     }
 }
@@ -80,10 +61,7 @@ fn prepare(rows: &mut [f64], n: usize, mode: Normalize, left: u64) -> Prepared
 fn both_finite(x: f64, y: f64) -> bool
     ensures { result ≡ (finite x && finite y) }
 {
-    if float::is_finite(x) {
-        return float::is_finite(y);
-    }
-    false
+    float::is_finite(x) && float::is_finite(y)
 }
 
 // A finite start outside the box widens it. Of two sizes a comparison gives the larger: no size is a -0.
@@ -133,9 +111,9 @@ fn is_saturated(p: Point, bound: f64) -> bool
 }
 
 // Both passes over n rows as they stand.
-fn both_passes(rows: &[f64], n: usize, task: Task, bound: f64, left: u64) -> Stepped
+fn both_passes(rows: &[f64], n: usize, task: Task, bound: f64, left: u64) -> Paid<Option<State>>
     requires { 3 * n ≡ length rows.now }
-    ensures { result ≡ stepped (within left (passes task (rows_of rows.now) bound)) }
+    ensures { result ≡ within left (passes task (rows_of rows.now) bound) }
 {
     let tol = task.tol;
     let start = task.start;
@@ -144,33 +122,31 @@ fn both_passes(rows: &[f64], n: usize, task: Task, bound: f64, left: u64) -> Ste
         at: begun(start, bound),
         active: active::no_rows(),
     };
-    let got = passes::forward(rows, n, start.skip, tol.scale, f, s, left);
-    match got {
-        Stepped::Spent => Stepped::Spent,
-        Stepped::Failed(rest) => Stepped::Failed(rest),
-        Stepped::Done(t, rest) => passes::deferred(rows, n, f, step::fresh(t), rest),
+    let (found, rest) = passes::forward(rows, n, start.skip, tol.scale, f, s, left)?;
+    match found {
+        None => Ok((None, rest)),
+        Some(t) => passes::deferred(rows, n, f, step::fresh(t), rest),
     }
 }
 
 // A solve over one box, of rows that are prepared.
-fn one_round(rows: &[f64], n: usize, task: Task, bound: f64, left: u64) -> Round
+fn one_round(rows: &[f64], n: usize, task: Task, bound: f64, left: u64) -> Paid<Round>
     requires { 3 * n ≡ length rows.now }
-    ensures { result ≡ rounded (widened task.start bound) (within left (passes task (rows_of rows.now) (widened task.start bound))) }
+    ensures { result ≡ within left (one_round task (rows_of rows.now) (widened task.start bound)) }
 {
-    let start = task.start;
-    let wide = widened(start, bound);
-    let got = both_passes(rows, n, task, wide, left);
-    match got {
-        Stepped::Spent => Round::Spent,
-        Stepped::Failed(rest) => Round::Off(Found::Failed, rest),
-        Stepped::Done(s, rest) => {
-            let at = s.at;
-            if is_saturated(at, wide) {
-                return Round::OnBox(s, rest);
-            }
-            Round::Off(Found::Done(s), rest)
-        }
-    }
+    let wide = widened(task.start, bound);
+    let (found, rest) = both_passes(rows, n, task, wide, left)?;
+    let sits_on_box = match found {
+        None => false,
+        Some(s) => is_saturated(s.at, wide),
+    };
+    Ok((
+        Round {
+            found: found,
+            sits_on_box: sits_on_box,
+        },
+        rest,
+    ))
 }
 
 // A solve of two rows or more over one box: the rows are prepared, and what is left of the readings goes to the passes.
@@ -181,24 +157,21 @@ pub fn solve_once(
     mode: Normalize,
     bound: f64,
     left: u64,
-) -> Round
+) -> Paid<Round>
     requires { 3 * n ≡ length rows.old }
-    ensures answer { result ≡ rounding task bound (within left (prepared mode (rows_of rows.old))) }
+    ensures answer { result ≡ within left (solving_once task mode (rows_of rows.old) bound) }
     ensures lent { rows.new ≡ leaves rows.old (within left (prepared mode (rows_of rows.old))) }
 {
-    let ready = prepare(rows, n, mode, left);
-    match ready {
-        Prepared::Spent => Round::Spent,
-        Prepared::Done(rest) => one_round(rows, n, task, bound, rest),
-    }
+    let rest = prepare(rows, n, mode, left)?;
+    one_round(rows, n, task, bound, rest)
 }
 
 // One row alone bounds y where it is level.
-pub fn lone(r: Row) -> Found
+pub fn lone(r: Row) -> Option<State>
     ensures { result ≡ lone r }
 {
     if float::abs(r.a) < 1e-9 && r.b > 1e-9 {
-        return Found::Done(State {
+        return Some(State {
             at: Point {
                 x: float::nan(),
                 y: r.c / r.b,
@@ -206,5 +179,5 @@ pub fn lone(r: Row) -> Found
             active: active::no_rows(),
         });
     }
-    Found::Failed
+    None
 }

@@ -1,4 +1,5 @@
 -- How many readings the forward pass takes at most.
+use Rattle.std.specs.Prelude.{Option, Some, None}
 use mathlib.Core.Path.{◌≡◌}
 use mathlib.Core.List.{List, [], ◌∷◌}
 use Prim.Native.Nat.{ℕ, zero, suc, ◌+◌, ◌-◌, ◌*◌, ◌≤◌}
@@ -10,8 +11,6 @@ use Rattle.readings.proofs.Bounds.{◌at_most◌, wider, pure_takes, read_takes,
 use Rattle.rows.specs.declared.Row.{Row}
 use Rattle.step.specs.declared.Frame.{Frame}
 use Rattle.step.specs.declared.State.{State}
-use Rattle.step.specs.declared.Found.{Found}
-use Rattle.step.specs.declared.Found.TheVariants.{Failed, Done}
 use Rattle.step.specs.Step.{step}
 use Rattle.step.proofs.Count.{bind?_takes, step_takes}
 use Rattle.recover.specs.Recover.{recover}
@@ -53,10 +52,10 @@ recovery_takes : (R : List Row) (F : Frame) (upto : ℕ) (s : State) → recover
 recovery_takes R F upto s = let h = taken upto R in wider (recover_takes R F upto s) (omega (arith, mul-le-mul h h))
 
 module _ (scale : Float) (R : List Row) (F : Frame) where
-  second_try_takes : (upto : ℕ) (s : State) (ε : Float) (found : Found) → second_try R F upto s ε found at_most 2 * (upto * upto) + 9 * upto
+  second_try_takes : (upto : ℕ) (s : State) (ε : Float) (found : Option State) → second_try R F upto s ε found at_most 2 * (upto * upto) + 9 * upto
   unfolding second_try
-  second_try_takes upto s ε Failed = if_takes _ (pure_takes _) (recovery_takes R F upto s)
-  second_try_takes upto s ε (Done t) = pure_takes _
+  second_try_takes upto s ε None = if_takes _ (pure_takes _) (recovery_takes R F upto s)
+  second_try_takes upto s ε (Some t) = pure_takes _
 
   repair_takes : (upto : ℕ) (s : State) → repair scale R F upto s at_most 4 * (upto * upto) + 18 * upto
   unfolding repair
@@ -65,10 +64,10 @@ module _ (scale : Float) (R : List Row) (F : Frame) where
   firm_takes : (i : ℕ) (s : State) → step R F i i s at_most i + 1
   firm_takes i s = wider (step_takes R F i i s) (omega (arith, taken i R))
 
-  after_trial_takes : (i : ℕ) (s : State) (found : Found) → after_trial scale R F i s found at_most 4 * ((i + 1) * (i + 1)) + 18 * (i + 1)
+  after_trial_takes : (i : ℕ) (s : State) (found : Option State) → after_trial scale R F i s found at_most 4 * ((i + 1) * (i + 1)) + 18 * (i + 1)
   unfolding after_trial
-  after_trial_takes i s Failed = repair_takes (i + 1) s
-  after_trial_takes i s (Done t) = wider (firm_takes i s) (omega arith)
+  after_trial_takes i s None = repair_takes (i + 1) s
+  after_trial_takes i s (Some t) = wider (firm_takes i s) (omega arith)
 
   pivot_takes : (r : Row) (i : ℕ) (s : State) → pivot scale R F r i s at_most 4 * ((i + 1) * (i + 1)) + 19 * (i + 1)
   unfolding pivot

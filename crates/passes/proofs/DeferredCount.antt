@@ -1,4 +1,5 @@
 -- How many readings the deferred rounds take at most.
+use Rattle.std.specs.Prelude.{Option, Some, None}
 use mathlib.Core.List.{List, [], ◌∷◌}
 use Prim.Native.Nat.{ℕ, zero, suc, ◌+◌, ◌*◌, ◌≤◌}
 use native.Mathlib.Omega.{arith}
@@ -8,11 +9,8 @@ use Rattle.readings.specs.Readings.{Counted}
 use Rattle.readings.proofs.Bounds.{◌at_most◌, wider, pure_takes, read_takes, bind_takes}
 use Rattle.rows.specs.declared.Row.{Row}
 use Rattle.rows.specs.declared.Point.{Point}
-use Rattle.active.specs.declared.Slot.{Slot}
-use Rattle.active.specs.declared.Slot.TheVariants.{NoRow, Holds}
 use Rattle.step.specs.declared.Frame.{Frame}
 use Rattle.step.specs.declared.State.{State}
-use Rattle.step.specs.declared.Found.{Found}
 use Rattle.step.specs.Step.{step}
 use Rattle.step.proofs.Count.{bind?_takes, step_takes}
 use Rattle.passes.specs.declared.Worst.{Worst}
@@ -23,10 +21,10 @@ unfolding worst
 worst_takes ε p [] i w = pure_takes _
 worst_takes ε p (r ∷ rows) i w = wider (read_takes 1 (worst_takes ε p rows (i + 1) _)) (omega arith)
 
-slot_cases : (w : Slot) {m : Counted Found} {f : ℕ → Counted Found} {x : ℕ} → m at_most x → ((i : ℕ) → f i at_most x)
-    → ◌at_most◌ {A = Found} (elim w [ NoRow ↦ m | Holds i ↦ f i ]) x
-slot_cases NoRow h k = h
-slot_cases (Holds i) h k = k i
+slot_cases : (w : Option ℕ) {m : Counted (Option State)} {f : ℕ → Counted (Option State)} {x : ℕ} → m at_most x → ((i : ℕ) → f i at_most x)
+    → ◌at_most◌ {A = Option State} (elim w [ None ↦ m | Some i ↦ f i ]) x
+slot_cases None h k = h
+slot_cases (Some i) h k = k i
 
 module _ (R : List Row) (F : Frame) where
   all_rows_takes : (i : ℕ) (s : State) → step R F (length R) i s at_most length R + 1

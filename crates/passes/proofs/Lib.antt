@@ -1,7 +1,7 @@
 pub mod Count
 pub mod Named
 pub mod Binds
-pub mod Attempts
+pub mod Tries
 pub mod Turns
 pub mod DeferredCount
 pub mod DeferredNamed

@@ -1,4 +1,5 @@
 -- Rows that are named are there: the active rows that the forward pass gives are below the number of rows.
+use Rattle.std.specs.Prelude.{Option, Some, None}
 use mathlib.Core.List.{List, [], ◌∷◌}
 use Prim.Native.Nat.{ℕ, ◌+◌, ◌-◌, ◌≤◌, ◌<◌}
 use native.Mathlib.Omega.{arith}
@@ -8,8 +9,6 @@ use Rattle.readings.proofs.Gives.{◌gives◌, pure_gives, read_gives, if_gives,
 use Rattle.rows.specs.declared.Row.{Row}
 use Rattle.step.specs.declared.Frame.{Frame}
 use Rattle.step.specs.declared.State.{State}
-use Rattle.step.specs.declared.Found.{Found}
-use Rattle.step.specs.declared.Found.TheVariants.{Failed, Done}
 use Rattle.step.specs.Step.{step}
 use Rattle.step.proofs.Named.{StateBelow, FoundBelow, bind?_below, step_below}
 use Rattle.recover.specs.Recover.{recover}
@@ -25,19 +24,19 @@ module _ (n : ℕ) (R : List Row) (few : length R ≤ n) (F : Frame) where
     recovered_below : (G : Frame) (upto : ℕ) → recover R G upto s gives FoundBelow n
     recovered_below G upto = recover_below n s below R G upto (simp length-take (omega arith))
 
-    second_try_below : (upto : ℕ) (ε : Float) (found : Found) → FoundBelow n found → second_try R F upto s ε found gives FoundBelow n
+    second_try_below : (upto : ℕ) (ε : Float) (found : Option State) → FoundBelow n found → second_try R F upto s ε found gives FoundBelow n
     unfolding second_try
-    second_try_below upto ε Failed h = if_gives _ (pure_gives _ tt) (recovered_below F upto)
-    second_try_below upto ε (Done t) h = pure_gives _ h
+    second_try_below upto ε None h = if_gives _ (pure_gives _ tt) (recovered_below F upto)
+    second_try_below upto ε (Some t) h = pure_gives _ h
 
     repair_below : (scale : Float) (upto : ℕ) → repair scale R F upto s gives FoundBelow n
     unfolding repair
     repair_below scale upto = bind_gives (recovered_below _ upto) (second_try_below upto _)
 
-    after_trial_below : (scale : Float) (i : ℕ) (found : Found) → i < n → after_trial scale R F i s found gives FoundBelow n
+    after_trial_below : (scale : Float) (i : ℕ) (found : Option State) → i < n → after_trial scale R F i s found gives FoundBelow n
     unfolding after_trial
-    after_trial_below scale i Failed h = repair_below scale (i + 1)
-    after_trial_below scale i (Done t) h = pinned_below i i h
+    after_trial_below scale i None h = repair_below scale (i + 1)
+    after_trial_below scale i (Some t) h = pinned_below i i h
 
     pivot_below : (scale : Float) (r : Row) (i : ℕ) → i < n → pivot scale R F r i s gives FoundBelow n
     unfolding pivot

@@ -1,10 +1,11 @@
 -- The deferred scan for the worst row, turn by turn.
-use mathlib.Core.Path.{◌≡◌, sym, ap, ◌∙◌}
+use Rattle.std.specs.Prelude.{Some, Result, Ok, Err}
+use Rattle.std.specs.Result.{IsErrAnd}
+use mathlib.Core.Path.{◌≡◌, refl, sym, ◌∙◌}
 use mathlib.Core.Logic.{⊎_elim}
 use mathlib.Core.Bool.{true, false, not, ◌||◌}
-use mathlib.Core.List.{List, ◌∷◌}
-use Prim.Native.Nat.{ℕ, ◌+◌, ◌-◌, ◌*◌, ◌≤◌, ◌<◌}
-use native.Mathlib.Omega.{arith}
+use mathlib.Core.List.{List}
+use Prim.Native.Nat.{ℕ, ◌+◌, ◌*◌, ◌≤◌, ◌<◌}
 use borrow.Author.Tests.{not-false}
 use lib.ListN.{length, drop}
 use lib.Ieee.{Float, lt}
@@ -13,17 +14,16 @@ use Rattle.float.specs.Float.{zero}
 use Rattle.float.proofs.Order.{neither, not_above_lem, lt_asym}
 use Rattle.float.proofs.Laws.{max_picks, above_size, above_no_size}
 use Rattle.float.proofs.Signs.{difference_not_positive}
-use Rattle.readings.specs.Readings.{Paid, within}
-use Rattle.readings.proofs.Laws.{within-pure, reading_stops, reading_fits}
+use Rattle.readings.specs.declared.Spent.{Spent}
+use Rattle.readings.specs.Readings.{Counted, read, ◌>>◌, Paid, paid, within, paying}
+use Rattle.readings.proofs.Laws.{within-pure, paid_then_answers, unpaid}
 use Rattle.rows.specs.Constants.{eps_rounding}
 use Rattle.rows.specs.declared.Row.{Row}
 use Rattle.rows.specs.declared.Point.{Point}
 use Rattle.rows.specs.Rows.{rows_of, row_at, residual, weight}
 use Rattle.rows.proofs.Flat.{next_of_all, none_left}
-use Rattle.active.specs.declared.Slot.TheVariants.{Holds}
 use Rattle.passes.specs.declared.Worst.{Worst}
-use Rattle.passes.specs.declared.Scanned.TheVariants.{Found, Spent}
-use Rattle.passes.specs.Passes.{excess, worst, scanned}
+use Rattle.passes.specs.Passes.{excess, worst}
 use Rattle.rows.proofs.Sizes.{rounding_not_negative}
 
 -- ---- an excess above zero
@@ -47,33 +47,43 @@ pub record Scan (ε : Float) (p : Point) (flat : List Float) (n i rest : ℕ) (w
   pub sized : lt w.excess zero ≡ false
 
 module _ {ε : Float} {p : Point} {flat : List Float} {n i rest : ℕ} {w : Worst} {whole : Paid Worst} (scan : Scan ε p flat n i rest w whole) where
-  pub ends : n ≤ i → Found w rest ≡ scanned whole
-  unfolding worst scanned
-  ends h = ap scanned (sym (within-pure rest w) ∙ (rw (none_left flat n i scan.all h) at scan.gives))
+  pub ends : n ≤ i → paid w rest ≡ whole
+  unfolding worst
+  ends h = sym (within-pure rest w) ∙ (rw (none_left flat n i scan.all h) at scan.gives)
 
-  module _ (inside : i < n) where
+  module _ (inside : i < n) {left : Result ℕ Spent} (reading : left ≡ paying rest 1) where
     abbrev row : Row
     row = row_at (rows_of flat) i
 
-    opened : within rest (worst ε p (row ∷ drop (i + 1) (rows_of flat)) i w) ≡ whole
+    -- the scan after row i, with the worst so far
+    abbrev after : Worst → Counted Worst
+    after = worst ε p (drop (i + 1) (rows_of flat)) (i + 1)
+
+    abbrev next : Worst
+    next = when excess ε row p ≻ w.excess then record { excess = excess ε row p; row = Some i } else w
+
+    opened : within rest (read 1 >> after next) ≡ whole
+    unfolding worst
     opened = rw (next_of_all flat n i scan.all inside) at scan.gives
 
-    pub stops : rest ≡ 0 → Spent ≡ scanned whole
-    unfolding worst scanned
-    stops e = ap scanned (sym (reading_stops rest 1 _ (omega arith)) ∙ opened)
+    pub stops : {e : Spent} {result : Paid Worst} → left ≡ Err e → IsErrAnd result (λ y. y ≡ e) → result ≡ whole
+    stops was passed = unpaid rest 1 _ reading was passed ∙ opened
 
-    module _ (some : 0 < rest) where
-      pub takes : excess ε row p ≻ w.excess ≡ true → Scan ε p flat n (i + 1) (rest - 1) (record { excess = excess ε row p; row = Holds i }) whole
-      unfolding worst when◌then◌else◌
+    module _ {over : ℕ} (was : left ≡ Ok over) where
+      paid_for : within over (after next) ≡ whole
+      paid_for = paid_then_answers rest 1 _ reading was refl ∙ opened
+
+      pub takes : excess ε row p ≻ w.excess ≡ true → Scan ε p flat n (i + 1) over (record { excess = excess ε row p; row = Some i }) whole
+      unfolding when◌then◌else◌
       takes e = record {
         all = scan.all;
-        gives = sym (reading_fits rest 1 _ (omega arith)) ∙ (rw e at opened);
+        gives = rw e at paid_for;
         sized = lt_asym zero (excess ε row p) (above_size (excess ε row p) w.excess scan.sized e);
       }
 
-      pub passes_over : excess ε row p ≻ w.excess ≡ false → Scan ε p flat n (i + 1) (rest - 1) w whole
-      unfolding worst when◌then◌else◌
-      passes_over e = record { all = scan.all; gives = sym (reading_fits rest 1 _ (omega arith)) ∙ (rw e at opened); sized = scan.sized }
+      pub passes_over : excess ε row p ≻ w.excess ≡ false → Scan ε p flat n (i + 1) over w whole
+      unfolding when◌then◌else◌
+      passes_over e = record { all = scan.all; gives = rw e at paid_for; sized = scan.sized }
 
-      pub skips : residual row p ≻ zero || not (zero ≼ ε) ≡ false → Scan ε p flat n (i + 1) (rest - 1) w whole
+      pub skips : residual row p ≻ zero || not (zero ≼ ε) ≡ false → Scan ε p flat n (i + 1) over w whole
       skips e = passes_over (above_no_size (excess ε row p) w.excess scan.sized (excess_not_positive ε row p e))

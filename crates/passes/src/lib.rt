@@ -2,32 +2,23 @@
 #![tactic(auto)]
 
 ghost use Rattle.std.specs.Prelude.{◌≡◌, ◌+◌, ◌*◌, ◌<◌, length, drop, not, ◌||◌};
-ghost use Rattle.float.specs.Operators.{when◌then◌else◌, ◌⊗◌, ◌≼◌, ◌≻◌};
-ghost use Rattle.readings.specs.Readings.{pure, within};
+ghost use Rattle.float.specs.Operators.{◌⊗◌, ◌≼◌, ◌≻◌};
+ghost use Rattle.readings.specs.Readings.{within};
 ghost use Rattle.rows.specs.Constants.{eps_rounding};
-ghost use Rattle.rows.specs.Rows.{rows_of, weight};
-ghost use Rattle.step.specs.Step.{step, stepped};
-ghost use Rattle.step.specs.declared.Found.TheVariants.{Done};
-ghost use Rattle.recover.specs.Recover.{recover};
+ghost use Rattle.rows.specs.Rows.{rows_of, row_at, weight};
+ghost use Rattle.rows.specs.Rows.{residual as residual_of};
 ghost use Rattle.float.specs.Float.{zero};
-ghost use Rattle.passes.specs.Passes.{frame, forward, excess, worst, none, scanned, deferred};
+ghost use Rattle.passes.specs.Passes.{frame, repair, pivot, forward, excess, worst, none, deferred};
 
-use active::Slot;
+use readings::{Paid, Spent};
 use rows::{Point, Row};
-use step::{Frame, State, Stepped};
+use step::{Frame, State};
 
 // The largest excess of a deferred scan so far, and its row.
 #[derive(Clone, Copy)]
 pub struct Worst {
     pub excess: f64,
-    pub row: Slot,
-}
-
-// What a deferred scan found, with the readings left; or too few were left.
-#[derive(Clone, Copy)]
-pub enum Scanned {
-    Found(Worst, u64),
-    Spent,
+    pub row: Option<usize>,
 }
 
 // ---- the forward pass
@@ -52,28 +43,46 @@ pub fn frame(bound: f64, eps: f64, scale: f64) -> Frame
     }
 }
 
-// A trial of row i where its residual is at most the tolerance, and none where it is not.
-fn trial(rows: &[f64], i: usize, residual: f64, f: Frame, s: State, left: u64) -> Stepped
+// A failed trial of row i: recovery of the rows up to it at a quarter of the tolerance, and then, unless that is the same, at the
+// tolerance. It begins at the state before the trial, of which nothing is in its collector.
+fn repair(rows: &[f64], i: usize, scale: f64, f: Frame, s: State, left: u64) -> Paid<Option<State>>
     requires { 3 * i + 2 < length rows.now }
-    ensures { result ≡ stepped (within left (when residual ≼ f.epsilon then step (rows_of rows.now) f i i s else pure (Done s))) }
+    ensures { result ≡ within left (repair scale (rows_of rows.now) f (i + 1) s) }
 {
-    if residual <= f.epsilon {
-        return step::incre_step_2d(rows, i, i, f, s, left);
+    let aim = frame(f.bound, f.epsilon * 0.25, scale);
+    let (found, rest) = recover::recover_prefix(rows, i + 1, aim, s, left)?;
+    if found.is_some() || aim.epsilon == f.epsilon {
+        return Ok((found, rest));
     }
-    Stepped::Done(s, left)
+    recover::recover_prefix(rows, i + 1, f, s, rest)
 }
 
-// One attempt to recover row i and those before it. It begins at the state before the trial, of which nothing is in its collector.
-fn attempt(rows: &[f64], i: usize, aim: Frame, s: State, left: u64) -> Stepped
-    requires { 3 * i + 2 < length rows.now }
-    ensures { result ≡ stepped (within left (recover (rows_of rows.now) aim (i + 1) s)) }
+// Row i is pinned; where its residual is at most the tolerance, a trial goes first, of which nothing is used but whether it failed.
+fn pivot(
+    rows: &[f64],
+    i: usize,
+    residual: f64,
+    scale: f64,
+    f: Frame,
+    s: State,
+    left: u64,
+) -> Paid<Option<State>>
+    requires inside { 3 * i + 2 < length rows.now }
+    requires of_row { residual ≡ residual_of (row_at (rows_of rows.now) i) s.at }
+    ensures { result ≡ within left (pivot scale (rows_of rows.now) f (row_at (rows_of rows.now) i) i s) }
 {
-    recover::recover_prefix(rows, i + 1, aim, s, left)
+    let mut rest = left;
+    if residual <= f.epsilon {
+        let (tried, over) = step::incre_step_2d(rows, i, i, f, s, rest)?;
+        if tried.is_none() {
+            return repair(rows, i, scale, f, s, over);
+        }
+        rest = over;
+    }
+    step::incre_step_2d(rows, i, i, f, s, rest)
 }
 
-// The n rows from row `skip` on, up to the first infeasible step. Each takes a reading before its floats are read. Nothing of
-// a trial is used but whether it failed: then recovery is tried at a quarter of the tolerance, and, unless that is the same,
-// at the tolerance.
+// The n rows from row `skip` on, up to the first infeasible step. Each takes a reading before its floats are read.
 pub fn forward(
     rows: &[f64],
     n: usize,
@@ -82,74 +91,30 @@ pub fn forward(
     f: Frame,
     start: State,
     left: u64,
-) -> Stepped
+) -> Paid<Option<State>>
     requires { 3 * n ≡ length rows.now }
-    ensures { result ≡ stepped (within left (forward scale (rows_of rows.now) f (drop skip (rows_of rows.now)) skip start)) }
+    ensures { result ≡ within left (forward scale (rows_of rows.now) f (drop skip (rows_of rows.now)) skip start) }
 {
     let mut s = start;
     let mut rest = left;
-    let mut i = skip;
-    'rows: while i < n {
+    for i in skip..n {
+        // As in a reduction, no call of `pay`: it costs six instructions a row here.
         if rest == 0 {
-            return Stepped::Spent;
+            return Err(Spent);
         }
         rest -= 1; // a forward test
         let r = rows::row_at(rows, i);
         let residual = rows::residual(r, s.at);
         if beyond_rounding(residual, r, s.at) {
-            match trial(rows, i, residual, f, s, rest) {
-                Stepped::Spent => {
-                    return Stepped::Spent;
-                }
-                Stepped::Failed(over) => {
-                    rest = over;
-                    let mut aim = frame(f.bound, f.epsilon * 0.25, scale);
-                    let mut last = aim.epsilon == f.epsilon;
-                    'attempts: loop {
-                        match attempt(rows, i, aim, s, rest) {
-                            Stepped::Spent => {
-                                return Stepped::Spent;
-                            }
-                            Stepped::Failed(over) => {
-                                rest = over;
-                                if last {
-                                    break 'rows;
-                                }
-                                aim = f;
-                                last = true;
-                            }
-                            Stepped::Done(t, over) => {
-                                s = step::fresh(t);
-                                rest = over;
-                                break 'attempts;
-                            }
-                        }
-                    }
-                }
-                Stepped::Done(t, over) => {
-                    match step::incre_step_2d(rows, i, i, f, s, over) {
-                        Stepped::Spent => {
-                            return Stepped::Spent;
-                        }
-                        Stepped::Failed(over) => {
-                            rest = over;
-                            break 'rows;
-                        }
-                        Stepped::Done(t, over) => {
-                            s = step::fresh(t);
-                            rest = over;
-                        }
-                    }
-                }
+            let (found, over) = pivot(rows, i, residual, scale, f, s, rest)?;
+            rest = over;
+            match found {
+                Some(t) => s = step::fresh(t),
+                None => return Ok((None, rest)),
             }
         }
-        i += 1;
     }
-    // Left at row i, or past the last.
-    if i < n {
-        return Stepped::Failed(rest);
-    }
-    Stepped::Done(s, rest)
+    Ok((Some(s), rest))
 }
 
 // ---- the deferred rounds
@@ -169,19 +134,19 @@ fn can_exceed(residual: f64, eps: f64) -> bool
 }
 
 // The first row with the largest excess above zero, of n rows.
-fn worst_row(rows: &[f64], n: usize, p: Point, eps: f64, left: u64) -> Scanned
+fn worst_row(rows: &[f64], n: usize, p: Point, eps: f64, left: u64) -> Paid<Worst>
     requires { 3 * n ≡ length rows.now }
-    ensures { result ≡ scanned (within left (worst eps p (rows_of rows.now) 0 none)) }
+    ensures { result ≡ within left (worst eps p (rows_of rows.now) 0 none) }
 {
     let mut w = Worst {
         excess: 0.0,
-        row: Slot::NoRow,
+        row: None,
     };
     let mut rest = left;
-    let mut i = 0usize;
-    while i < n {
+    for i in 0..n {
+        // As in a reduction, no call of `pay`.
         if rest == 0 {
-            return Scanned::Spent;
+            return Err(Spent);
         }
         rest -= 1; // a row of a deferred scan
         let r = rows::row_at(rows, i);
@@ -190,54 +155,32 @@ fn worst_row(rows: &[f64], n: usize, p: Point, eps: f64, left: u64) -> Scanned
             if e > w.excess {
                 w = Worst {
                     excess: e,
-                    row: Slot::Holds(i),
+                    row: Some(i),
                 };
             }
         }
-        i += 1;
     }
-    Scanned::Found(w, rest)
+    Ok((w, rest))
 }
 
 // The worst row is pinned against all n rows, again and again until there is none, four times at most.
-pub fn deferred(rows: &[f64], n: usize, f: Frame, start: State, left: u64) -> Stepped
+pub fn deferred(rows: &[f64], n: usize, f: Frame, start: State, left: u64) -> Paid<Option<State>>
     requires { 3 * n ≡ length rows.now }
-    ensures { result ≡ stepped (within left (deferred 4 (rows_of rows.now) f start)) }
+    ensures { result ≡ within left (deferred 4 (rows_of rows.now) f start) }
 {
     let mut s = start;
     let mut rest = left;
-    let mut rounds = 4usize;
-    while rounds > 0 {
-        let got = worst_row(rows, n, s.at, f.epsilon, rest);
-        match got {
-            Scanned::Spent => {
-                return Stepped::Spent;
-            }
-            Scanned::Found(w, over) => {
-                let row = w.row;
-                match row {
-                    Slot::NoRow => {
-                        return Stepped::Done(s, over);
-                    }
-                    Slot::Holds(i) => {
-                        let next = step::incre_step_2d(rows, i, n, f, s, over);
-                        match next {
-                            Stepped::Spent => {
-                                return Stepped::Spent;
-                            }
-                            Stepped::Failed(last) => {
-                                return Stepped::Failed(last);
-                            }
-                            Stepped::Done(t, last) => {
-                                s = step::fresh(t);
-                                rest = last;
-                            }
-                        }
-                    }
-                }
-            }
+    for round in 0..4u32 {
+        let (w, over) = worst_row(rows, n, s.at, f.epsilon, rest)?;
+        let Some(i) = w.row else {
+            return Ok((Some(s), over));
+        };
+        let (found, last) = step::incre_step_2d(rows, i, n, f, s, over)?;
+        rest = last;
+        match found {
+            Some(t) => s = step::fresh(t),
+            None => return Ok((None, last)),
         }
-        rounds -= 1;
     }
-    Stepped::Done(s, rest)
+    Ok((Some(s), rest))
 }

@@ -1,25 +1,25 @@
 -- Two records that begin alike: where all the bytes that are held are the same, and the floats of the rows, so is what comes of them.
 use mathlib.Core.Path.{◌≡◌, refl, sym, ap, ap₂, ◌∙◌}
-use mathlib.Core.Bool.{Bool, true, false}
+use mathlib.Core.Logic.{◌≢◌}
+use mathlib.Core.Bool.{true}
 use mathlib.Core.List.{List, ◌∷◌, ◌++◌}
 use Prim.Native.Nat.{ℕ, zero, suc, ◌+◌, ◌*◌, ◌≤◌}
 use native.Mathlib.Omega.{arith}
-use lib.Dec.{eqb}
 use lib.ListN.{length, take, drop}
 use lib.Seq.{take_all, take-append-le}
 use lib.Ieee.{Float, binary64, of_bits}
-use borrow.Author.Tests.{eq-eqb, ne_eqb}
-use Rattle.float.specs.Operators.{when◌then◌else◌}
-use Rattle.solve.specs.declared.Outcome.{Outcome}
-use Rattle.solve.specs.declared.Outcome.TheVariants.{Refused}
-use Rattle.solve.specs.Solve.{Ended, solve}
+use Rattle.std.specs.Prelude.{Option, Some, None, Err}
+use Rattle.rows.specs.declared.Refusal.{Refusal}
+use Rattle.rows.specs.declared.Refusal.TheVariants.{TooMany}
+use Rattle.solve.specs.declared.Unsolved.TheVariants.{Refused}
+use Rattle.solve.specs.Solve.{Ended, Outcome, solve, unless_refused}
 use Rattle.record.specs.Sizes.{header_bytes, field_bytes, rows_at}
 use Rattle.record.specs.Bytes.{float, floats}
 use Rattle.record.specs.Record.{body_length, kind, size, normalize_byte, task, allowance, float_count, row_floats, refusal, answered, outcome}
 use Rattle.record.proofs.Bytes.{length-floats}
 use Rattle.record.proofs.Refusals.{solved-length, solved-without, refused_alike}
 use Rattle.reader.specs.Reader.{kept, keeps_rows}
-use Rattle.reader.proofs.Kept.{number, by_kept, kept_between, rows-kept}
+use Rattle.reader.proofs.Kept.{refusal_by_header, by_kept, kept_between, rows-kept}
 use Rattle.reader.proofs.Alike.{alike_less, alike_later, same_field, same_header, same_told}
 
 -- ---- two lists that begin alike
@@ -62,26 +62,33 @@ all_rows : (a : List ℕ) → take (float_count a) (row_floats a) ≡ row_floats
 unfolding row_floats
 all_rows a = take_all (float_count a) (floats (float_count a) (drop rows_at a)) (omega (arith, length-floats (float_count a) (drop rows_at a)))
 
-outcome_of : (c : Bool) (x y : Ended (List Float)) → (when c then x else y).outcome ≡ (when c then x.outcome else y.outcome)
-unfolding when◌then◌else◌
-outcome_of true x y = refl
-outcome_of false x y = refl
+-- the refusal, by the normalise byte too
+abbrev refused_by : List ℕ → Option Refusal
+refused_by a = refusal (kind a) (body_length a) (normalize_byte a)
+
+outcome_of : (why : Option Refusal) (rows rows' : List Float) (e e' : Ended (List Float)) → e.outcome ≡ e'.outcome
+    → (unless_refused why rows e).outcome ≡ (unless_refused why rows' e').outcome
+outcome_of None rows rows' e e' same = same
+outcome_of (Some why) rows rows' e e' same = refl
 
 -- by the floats that are solved
 abbrev comes_to : List ℕ → List Float → Outcome
-comes_to a rows =
-    let number = refusal (kind a) (body_length a) (normalize_byte a) in
-    when eqb number 0 then (solve (task a) (allowance a) rows).outcome else Refused number
+comes_to a rows = (unless_refused (refused_by a) rows (solve (task a) (allowance a) rows)).outcome
 
 by_solved : (a : List ℕ) (rows : List Float) → (answered a rows).outcome ≡ comes_to a (take (float_count a) rows)
 unfolding answered
-by_solved a rows = outcome_of _ _ _
+by_solved a rows = outcome_of (refused_by a) rows (take (float_count a) rows) _ _ refl
 
-pub refused : (a : List ℕ) (rows : List Float) → (number a ≡ 0 → ⊥)
-    → answered a rows ≡ record { outcome = Refused (refusal (kind a) (body_length a) (normalize_byte a)); rows = rows }
-unfolding answered when◌then◌else◌
-refused a rows not0 =
-    rw (ne_eqb (refusal (kind a) (body_length a) (normalize_byte a)) 0 (λ e. not0 (solved-without (kind a) (body_length a) (normalize_byte a) e)))
+-- one that its header refuses is refused, and leaves what is lent as it was
+pub refused : (a : List ℕ) (rows : List Float) → refusal_by_header a ≢ None
+    → (why : Refusal) × (refused_by a ≡ Some why) × (answered a rows ≡ record { outcome = Err (Refused why); rows = rows })
+unfolding answered
+refused a rows some = go (refused_by a) refl
+  where
+    go : (given : Option Refusal) → refused_by a ≡ given
+        → (why : Refusal) × (refused_by a ≡ Some why) × (answered a rows ≡ record { outcome = Err (Refused why); rows = rows })
+    go None e = absurd (some (solved-without (kind a) (body_length a) (normalize_byte a) e))
+    go (Some why) e = (why, e, rw e)
 
 module _ (a b : List ℕ) (rows : List Float) where
   solved_alike : take (float_count b) rows ≡ row_floats b → take rows_at a ≡ take rows_at b → (answered a rows).outcome ≡ outcome b
@@ -90,44 +97,47 @@ module _ (a b : List ℕ) (rows : List Float) where
       let header = same_header rows_at a b alike (omega arith) in
       let fields = same_fields rows_at a b alike (omega arith) in
       let alone : comes_to a (take (float_count a) rows) ≡ comes_to b (row_floats b)
-      = rw (same_float_count rows_at a b alike (omega arith), same, header.0, header.1, fields.0, fields.1, fields.2) in
+      = rw (same_float_count rows_at a b alike (omega arith), same, comes_to, header.0, header.1, fields.0, fields.1, fields.2) in
       by_solved a rows ∙ alone ∙ sym (by_solved b (row_floats b) ∙ ap (comes_to b) (all_rows b))
 
   module _ (alike : take header_bytes a ≡ take header_bytes b) where
     abbrev header : (body_length a ≡ body_length b) × (kind a ≡ kind b)
     header = same_header header_bytes a b alike (omega arith)
 
-    same_number : number a ≡ number b
-    same_number = rw (header.0, header.1)
+    same_refusal : refusal_by_header a ≡ refusal_by_header b
+    same_refusal = rw (header.0, header.1)
 
-    both_refused : (number b ≡ 0 → ⊥) → refusal (kind a) (body_length a) (normalize_byte a) ≡ refusal (kind b) (body_length b) (normalize_byte b)
-        → (answered a rows).outcome ≡ outcome b
+    both_refused : refusal_by_header b ≢ None → refused_by a ≡ refused_by b → (answered a rows).outcome ≡ outcome b
     unfolding outcome
-    both_refused not0 same =
-        let outcome-of-a = ap (λ (e : Ended (List Float)). e.outcome) (refused a rows (λ e. not0 (sym same_number ∙ e))) in
-        let outcome-of-b = ap (λ (e : Ended (List Float)). e.outcome) (refused b (row_floats b) not0) in
-        outcome-of-a ∙ ap Refused same ∙ sym outcome-of-b
+    both_refused some same =
+        let in-a = refused a rows (λ none. some (sym same_refusal ∙ none)) in
+        let in-b = refused b (row_floats b) some in
+        let why : in-a.0 ≡ in-b.0 = let told = sym in-a.1 ∙ same ∙ in-b.1 in cc in
+        ap (λ (e : Ended (List Float)). e.outcome) in-a.2
+        ∙ ap (λ (why : Refusal). Err (Refused why)) why
+        ∙ sym (ap (λ (e : Ended (List Float)). e.outcome) in-b.2)
 
-    other_alike : (number b ≡ 0 → ⊥) → (number b ≡ 2 → ⊥) → (answered a rows).outcome ≡ outcome b
-    other_alike not0 not2 =
-        let of-a = refused_alike (kind a) (body_length a) (normalize_byte a) (λ e. not0 (sym same_number ∙ e)) (λ e. not2 (sym same_number ∙ e)) in
-        let of-b = refused_alike (kind b) (body_length b) (normalize_byte b) not0 not2 in
-        both_refused not0 (of-a ∙ same_number ∙ sym of-b)
+    other_alike : refusal_by_header b ≢ None → refusal_by_header b ≢ Some TooMany → (answered a rows).outcome ≡ outcome b
+    other_alike some other =
+        let of-a =
+        refused_alike (kind a) (body_length a) (normalize_byte a) (λ e. some (sym same_refusal ∙ e)) (λ e. other (sym same_refusal ∙ e)) in
+        let of-b = refused_alike (kind b) (body_length b) (normalize_byte b) some other in
+        both_refused some (of-a ∙ same_refusal ∙ sym of-b)
 
-  many_alike : number b ≡ 2 → take rows_at a ≡ take rows_at b → (answered a rows).outcome ≡ outcome b
+  many_alike : refusal_by_header b ≡ Some TooMany → take rows_at a ≡ take rows_at b → (answered a rows).outcome ≡ outcome b
   unfolding rows_at
   many_alike e alike =
       let six = alike_less rows_at a b alike header_bytes (omega arith) in
-      both_refused six (λ z. let no : ⊥ = omega arith in no) (rw ((header six).0, (header six).1, (same_fields rows_at a b alike (omega arith)).2))
+      both_refused six (λ none. absurd (cc)) (rw ((header six).0, (header six).1, (same_fields rows_at a b alike (omega arith)).2))
 
   pub same_outcome : (keeps_rows b ≡ true → take (float_count b) rows ≡ row_floats b) → take (kept b) a ≡ take (kept b) b
       → (answered a rows).outcome ≡ outcome b
   unfolding keeps_rows
   same_outcome same =
       by_kept b (λ k. take k a ≡ take k b → (answered a rows).outcome ≡ outcome b)
-      (λ e alike. solved_alike (same (eq-eqb (number b) 0 e)) alike)
+      (λ e alike. solved_alike (same (rw e)) alike)
       many_alike
-      (λ not0 not2 alike. other_alike alike not0 not2)
+      (λ some other alike. other_alike alike some other)
 
 -- ---- more bytes change nothing that the first ones tell
 

@@ -6,13 +6,14 @@ use mathlib.Core.Bool.{true, false}
 use mathlib.Core.List.{List, [], ◌∷◌, ◌++◌}
 use Prim.Native.Nat.{ℕ, ◌+◌, ◌≤◌, ◌<◌}
 use native.Mathlib.Omega.{arith}
-use lib.Dec.{eqb}
-use lib.ListN.{length, take}
+use lib.ListN.{length, take, drop}
 use lib.Seq.{take-nil}
 use lib.Ieee.{Float}
-use borrow.Author.Tests.{le-ltb, ne_eqb}
+use borrow.Author.Tests.{le-ltb}
 use Rattle.float.specs.Operators.{when◌then◌else◌}
-use Rattle.solve.specs.declared.Outcome.{Outcome}
+use Rattle.std.specs.Prelude.{Option, Some, None}
+use Rattle.rows.specs.declared.Refusal.{Refusal}
+use Rattle.rows.specs.declared.Refusal.TheVariants.{TooMany, UnknownKind, Malformed}
 use Rattle.solve.specs.Solve as solving
 use Rattle.solve.proofs.Allowance.{solve_no_other}
 use Rattle.text.specs.Lines.{outcome_line}
@@ -20,14 +21,14 @@ use Rattle.record.specs.Sizes.{header_bytes, rows_at, most_floats}
 use Rattle.record.specs.Record.{body_length, kind, normalize_byte, task, allowance, float_count, refusal, answered}
 use Rattle.portions.specs.Stream.{output}
 use Rattle.reader.specs.declared.Link.{Link}
-use Rattle.reader.specs.Reader.{State, state, most_bytes, started, listening, kept, keeps_rows, in_rows, head_with, word_with, rows_with, placed, line_of}
+use Rattle.reader.specs.Reader.{State, state, most_bytes, started, listening, kept, in_rows, head_with, word_with, rows_with, placed, line_of}
 use Rattle.reader.specs.Reader.{turned, after, text, after_all, texts, up_to_end, up_to_room, taken, taken_in, refusal_of, fed, said, closed, end_text, ended}
 use Rattle.portions.specs.Runs.{Offer, run}
 use Rattle.gather.proofs.Choice.{either}
 use Rattle.reader.proofs.Byte.{uncounted, goes_on, is_there, by_case, by_after}
 use Rattle.portions.proofs.Listening.{started_listens, keeps_listening}
 use Rattle.portions.proofs.Lengths.{length-after}
-use Rattle.reader.proofs.Kept.{number, by_kept}
+use Rattle.reader.proofs.Kept.{refusal_by_header, by_kept, no_rows-kept}
 use Rattle.portions.proofs.Alike.{refused}
 use Rattle.portions.proofs.Cut as cut
 
@@ -74,9 +75,10 @@ module _ (link : Link) (head : List ℕ) (rows : List Float) where
 
 -- ---- 3. a record is answered, or refused by 3 at most, by 9 or by 10; refusal 8 comes only when the end is told
 
-unsolved_by : (P : ℕ → Type 0) → P 0 → P 2 → P 9 → P 10 → (kind length byte : ℕ) → P (refusal kind length byte)
+unsolved_by : (P : Option Refusal → Type 0) → P None → P (Some TooMany) → P (Some UnknownKind) → P (Some Malformed) → (kind length byte : ℕ)
+    → P (refusal kind length byte)
 unfolding refusal
-unsolved_by P none two nine ten kind length byte = either P _ nine (either P _ ten (either P _ two none))
+unsolved_by P none many unknown malformed kind length byte = either P _ unknown (either P _ malformed (either P _ many none))
 
 module _ (head : List ℕ) (rows : List Float) where
   abbrev Numbered : ℕ → Type 0
@@ -85,9 +87,17 @@ module _ (head : List ℕ) (rows : List Float) where
   pub no_other : Numbered (solving.number (answered head rows).outcome)
   unfolding answered solving.number
   no_other =
-      either (λ (e : solving.Ended (List Float)). Numbered (solving.number e.outcome)) (eqb (refusal (kind head) (body_length head) (normalize_byte head)) 0)
-      (inl (solve_no_other (task head) (take (float_count head) rows) (allowance head)))
-      (unsolved_by Numbered (inl (omega arith)) (inl (omega arith)) (inr (inl refl)) (inr (inr refl)) (kind head) (body_length head) (normalize_byte head))
+      let n = float_count head in
+      let solved = solving.solve (task head) (allowance head) (take n rows) in
+      let done : solving.Ended (List Float) = record { outcome = solved.outcome; rows = solved.rows ++ drop n rows } in
+      unsolved_by (λ why. Numbered (solving.number (solving.unless_refused why rows done).outcome))
+      (inl (solve_no_other (task head) (take n rows) (allowance head)))
+      (inl (omega arith))
+      (inr (inl refl))
+      (inr (inr refl))
+      (kind head)
+      (body_length head)
+      (normalize_byte head)
 
   pub never_eight : solving.number (answered head rows).outcome ≢ 8
   never_eight e = ⊎_elim (λ few. omega arith) (⊎_elim (λ nine. omega arith) (λ ten. omega arith)) no_other
@@ -95,7 +105,7 @@ module _ (head : List ℕ) (rows : List Float) where
 -- what a byte prints is nothing, or the line of an outcome that is not refusal 8
 module _ (s : State) (b : ℕ) where
   abbrev NoLineOf8 : Type 0
-  NoLineOf8 = (text s b ≡ []) ⊎ ((got : Outcome) × (solving.number got ≢ 8) × (text s b ≡ outcome_line (s.link.lines + 1) got))
+  NoLineOf8 = (text s b ≡ []) ⊎ ((got : solving.Outcome) × (solving.number got ≢ 8) × (text s b ≡ outcome_line (s.link.lines + 1) got))
 
   pub no_line_of_8 : NoLineOf8
   unfolding line_of placed state
@@ -161,10 +171,10 @@ module _ (s : State) (b : ℕ) where
   abbrev Untouched : State → Type 0
   Untouched t = (t.head ≡ s.head) × (t.link.word ≡ s.link.word) × (t.rows ≡ s.rows)
 
-  module _ (not0 : number s.head ≢ 0) (past : kept s.head ≤ s.link.passed) where
+  module _ (some : refusal_by_header s.head ≢ None) (past : kept s.head ≤ s.link.passed) where
     not_in_rows : in_rows s ≡ false
-    unfolding in_rows keeps_rows
-    not_in_rows = rw (ne_eqb (number s.head) 0 not0)
+    unfolding in_rows
+    not_in_rows = rw (no_rows-kept s.head some)
 
     untouched_on : Untouched (placed s b)
     unfolding placed state head_with word_with rows_with when◌then◌else◌
@@ -174,19 +184,19 @@ module _ (s : State) (b : ℕ) where
     unfolding turned state
     untouched_next =
         let t = placed s b in
-        let same : (answered t.head t.rows).rows ≡ t.rows = rw (refused t.head t.rows (rw untouched_on.0 not0)) in
+        let same : (answered t.head t.rows).rows ≡ t.rows = rw (refused t.head t.rows (rw untouched_on.0 some)).2 in
         (untouched_on.0, untouched_on.1, same ∙ untouched_on.2)
 
     untouched : Untouched (after s b)
     untouched = by_after s b Untouched (refl, refl, refl) (λ _. untouched_on) (λ _. untouched_next)
 
   -- that of a record of another kind, or of another length
-  pub skips_body : number s.head ≢ 0 → number s.head ≢ 2 → header_bytes ≤ s.link.passed → Untouched (after s b)
-  skips_body not0 not2 there =
-      untouched not0 (by_kept s.head (λ k. k ≤ s.link.passed) (λ e. absurd (not0 e)) (λ e. absurd (not2 e)) (λ _ _. there))
+  pub skips_body : refusal_by_header s.head ≢ None → refusal_by_header s.head ≢ Some TooMany → header_bytes ≤ s.link.passed → Untouched (after s b)
+  skips_body some other there =
+      untouched some (by_kept s.head (λ k. k ≤ s.link.passed) (λ e. absurd (some e)) (λ e. absurd (other e)) (λ _ _. there))
 
   -- the rows of one with too many
-  pub skips_rows : number s.head ≡ 2 → rows_at ≤ s.link.passed → Untouched (after s b)
+  pub skips_rows : refusal_by_header s.head ≡ Some TooMany → rows_at ≤ s.link.passed → Untouched (after s b)
   unfolding header_bytes rows_at
   skips_rows many there =
-      untouched (λ e. omega arith) (by_kept s.head (λ k. k ≤ s.link.passed) (λ _. there) (λ _. there) (λ _ _. omega arith))
+      untouched (λ none. absurd (cc)) (by_kept s.head (λ k. k ≤ s.link.passed) (λ _. there) (λ _. there) (λ _ _. omega arith))

@@ -2,11 +2,13 @@
 use mathlib.Core.Path.{◌≡◌, refl, ◌∙◌}
 use mathlib.Core.List.{List}
 use Prim.Native.Nat.{ℕ, ◌-◌}
-use lib.Dec.{eqb, ltb}
+use lib.Dec.{ltb}
 use lib.ListN.{length, take, length-set}
 use lib.Seq.{length_front}
 use lib.Ieee.{Float}
-use Rattle.solve.specs.Solve.{Ended, solve}
+use Rattle.std.specs.Prelude.{Option, Some, None}
+use Rattle.rows.specs.declared.Refusal.{Refusal}
+use Rattle.solve.specs.Solve.{Ended, solve, unless_refused}
 use Rattle.solve.proofs.Lengths.{length-solve}
 use Rattle.record.specs.Sizes.{rows_at}
 use Rattle.record.specs.Record.{body_length, kind, normalize_byte, task, allowance, float_count, refusal, answered}
@@ -15,14 +17,18 @@ use Rattle.gather.proofs.Choice.{either}
 use Rattle.reader.proofs.Byte.{by_after}
 use Rattle.gather.proofs.Pushes.{length-rows_in}
 
+kept_by : (why : Option Refusal) (rows : List Float) (e : Ended (List Float)) → length e.rows ≡ length rows
+    → length (unless_refused why rows e).rows ≡ length rows
+kept_by None rows e same = same
+kept_by (Some why) rows e same = refl
+
 length-answered : (head : List ℕ) (rows : List Float) → length (answered head rows).rows ≡ length rows
 unfolding answered
 length-answered head rows =
     let n = float_count head in
     let solved = (solve (task head) (allowance head) (take n rows)).rows in
-    either (λ (e : Ended (List Float)). length e.rows ≡ length rows) (eqb (refusal (kind head) (body_length head) (normalize_byte head)) 0)
+    kept_by (refusal (kind head) (body_length head) (normalize_byte head)) rows _
     (length_front rows solved n (length-solve (task head) (allowance head) (take n rows)))
-    refl
 
 module _ (s : State) (b : ℕ) where
   abbrev Keeps : State → Type 0

@@ -4,7 +4,9 @@ use Prim.Native.Nat.{ℕ, ◌+◌, ◌≤◌}
 use native.Mathlib.Omega.{arith}
 use lib.Dec.{eqb}
 use lib.ListN.{length, length-append}
-use Rattle.solve.specs.declared.Outcome.TheVariants.{Refused}
+use Rattle.std.specs.Prelude.{Err}
+use Rattle.rows.specs.declared.Refusal.TheVariants.{Cut}
+use Rattle.solve.specs.declared.Unsolved.TheVariants.{Refused}
 use Rattle.text.specs.Sizes.{longest_line, longest_end}
 use Rattle.gather.proofs.Choice.{either}
 use Rattle.reader.specs.declared.Link.{Link}
@@ -21,4 +23,4 @@ last-length link =
     let number = link.lines + 1 in
     either (λ (l : List ℕ). length l ≤ longest_line + longest_end) (eqb link.passed 0)
     (omega (arith, end_length link.lines))
-    (simp length-append (omega (arith, line_length number (Refused 8), end_length number)))
+    (simp length-append (omega (arith, line_length number (Err (Refused Cut)), end_length number)))

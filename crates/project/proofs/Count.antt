@@ -1,5 +1,6 @@
 -- Projection takes at most six readings for each row before `upto`: a scan at the point's own x, one for the interval, and one at each of
 -- four more x. Assumes nothing.
+use Rattle.std.specs.Prelude.{Option, Some, None}
 use mathlib.Core.Bool.{Bool, true, false, ◌&&◌}
 use mathlib.Core.List.{List, [], ◌∷◌}
 use Prim.Native.Nat.{ℕ, ◌*◌, ◌≤◌}
@@ -15,14 +16,12 @@ use Rattle.rows.specs.declared.Row.{Row}
 use Rattle.rows.specs.declared.Point.{Point}
 use Rattle.scan.proofs.Count.{every_takes}
 use Rattle.project.specs.declared.Interval.{Interval}
-use Rattle.project.specs.declared.Cut.{Cut}
-use Rattle.project.specs.declared.Cut.TheVariants.{Empty, Keep}
 use Rattle.project.specs.Project.{works, first_that_works, cut, interval, middle, attempts, inside, project}
 
-cut_cases : (c : Cut) {m : Counted Cut} {f : Interval → Counted Cut} {x : ℕ} → m at_most x → ((v : Interval) → f v at_most x)
-    → ◌at_most◌ {A = Cut} (elim c [ Empty ↦ m | Keep v ↦ f v ]) x
-cut_cases Empty h k = h
-cut_cases (Keep v) h k = k v
+cut_cases : (c : Option Interval) {m : Counted (Option Interval)} {f : Interval → Counted (Option Interval)} {x : ℕ} → m at_most x
+    → ((v : Interval) → f v at_most x) → ◌at_most◌ {A = Option Interval} (elim c [ None ↦ m | Some v ↦ f v ]) x
+cut_cases None h k = h
+cut_cases (Some v) h k = k v
 
 one-middle : (v : Interval) → length (middle v) ≤ 1
 unfolding middle when◌then◌else◌
@@ -52,10 +51,10 @@ module _ (ε y : Float) where
   interval_takes [] v = pure_takes _
   interval_takes (r ∷ rows) v = wider (read_takes 1 (cut_cases (cut ε y r v) (pure_takes _) (interval_takes rows))) (omega arith)
 
-  inside_takes : (rows : List Row) (x : Float) (c : Cut) → inside ε y rows x c at_most 4 * length rows
+  inside_takes : (rows : List Row) (x : Float) (c : Option Interval) → inside ε y rows x c at_most 4 * length rows
   unfolding inside
-  inside_takes rows x Empty = pure_takes _
-  inside_takes rows x (Keep v) = wider (first_that_works_takes rows _) (mul-le-mul_right (length rows) (four_attempts x v))
+  inside_takes rows x None = pure_takes _
+  inside_takes rows x (Some v) = wider (first_that_works_takes rows _) (mul-le-mul_right (length rows) (four_attempts x v))
 
 pub project_takes : (R : List Row) (upto : ℕ) (p : Point) (ε : Float) → project R upto p ε at_most 6 * length (take upto R)
 unfolding project

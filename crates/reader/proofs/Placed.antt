@@ -7,7 +7,7 @@ use native.Mathlib.Nat.{sub-zero, add-zero}
 use native.Mathlib.Numerals.{add-one, one-add}
 use native.Mathlib.Decide.{dec_le}
 use native.Mathlib.Omega.{arith}
-use borrow.Author.Tests.{lt-ltb, le-ltb, ne_eqb}
+use borrow.Author.Tests.{lt-ltb, le-ltb}
 use lib.Dec.{ltb}
 use lib.ListN.{length, set}
 use lib.Seq.{sets, sets-eq, take-set-le}
@@ -21,7 +21,7 @@ use Rattle.gather.proofs.Choice.{either}
 use Rattle.reader.specs.declared.Link.{Link}
 use Rattle.reader.specs.Reader.{State, state, kept, keeps_rows, in_rows, head_with, word_with, rows_with, placed}
 use Rattle.reader.specs.Parts.{word_on, rows_on, head_on, placed_all}
-use Rattle.reader.proofs.Kept.{number, by_kept, kept_between}
+use Rattle.reader.proofs.Kept.{by_kept, kept_between, no_rows-kept}
 use Rattle.reader.proofs.Alike.{same_told}
 
 -- n bytes further, with this word
@@ -132,10 +132,9 @@ module _ (head : List ℕ) where
   keeps_all = by_kept head (λ k. header_bytes < k → k ≡ rows_at) (λ _ _. refl) (λ _ _. refl) (λ _ _ h. absurd (omega arith))
 
   no_rows : kept head < rows_at → keeps_rows head ≡ false
-  unfolding keeps_rows
   no_rows =
       by_kept head (λ k. k < rows_at → keeps_rows head ≡ false) (λ _ h. absurd (omega arith)) (λ _ h. absurd (omega arith))
-      (λ not0 _ _. ne_eqb (number head) 0 not0)
+      (λ some _ _. no_rows-kept head some)
 
 module _ (link : Link) (head : List ℕ) (rows : List Float) (bytes : List ℕ) where
   abbrev s_all : State

@@ -5,7 +5,7 @@ use Prim.Native.Nat.{ℕ, ◌≤◌}
 use native.Mathlib.Omega.{arith}
 use lib.ListN.{length, length-append}
 use lib.Seq.{paste-zero}
-use Rattle.solve.specs.declared.Outcome.{Outcome}
+use Rattle.solve.specs.Solve.{Outcome}
 use Rattle.text.specs.Sizes.{longest_line, longest_end}
 use Rattle.text.specs.Text.{written}
 use Rattle.text.specs.Lines.{outcome_line, end_line}

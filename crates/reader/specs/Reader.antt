@@ -1,7 +1,11 @@
 -- A reader of records that come a few bytes at a time: what it holds, what one byte does to it, and what is printed. Assumes nothing.
 use Rattle.std.specs.Prelude.{ℕ, ◌+◌, ◌-◌, ◌^◌, min, Bool, not, ◌||◌, ◌&&◌, List, [], ◌∷◌, ◌++◌, eqb, ltb, length, take, set, Float}
+use Rattle.std.specs.Prelude.{Option, Some, None, is_none, Err}
 use Rattle.float.specs.Operators.{when◌then◌else◌}
-use Rattle.solve.specs.declared.Outcome.TheVariants.{Refused}
+use Rattle.rows.specs.declared.Refusal.{Refusal}
+use Rattle.rows.specs.declared.Refusal.TheVariants.{Cut}
+use Rattle.rows.specs.Refusals.{number}
+use Rattle.solve.specs.declared.Unsolved.TheVariants.{Refused}
 use Rattle.text.specs.Sizes.{longest_line}
 use Rattle.text.specs.Lines.{outcome_line, end_line}
 use Rattle.record.specs.Sizes.{header_bytes, rows_at}
@@ -37,14 +41,16 @@ listening link head = eqb link.live 1 && not (ltb most_bytes (link.lines + link.
 -- ---- how much of a record is held, once its header is there
 
 -- what stands before the rows of one to be solved, or of one with too many; of any other the header alone
+unfoldable pub kept_of : Option Refusal → ℕ
+kept_of None = rows_at
+kept_of (Some refusal) = when eqb (number refusal) 2 then rows_at else header_bytes
+
 unfoldable pub kept : List ℕ → ℕ
-kept head =
-    let number = refusal (kind head) (body_length head) 0 in
-    when eqb number 0 || eqb number 2 then rows_at else header_bytes
+kept head = kept_of (refusal (kind head) (body_length head) 0)
 
 -- and the rows of one to be solved
 unfoldable pub keeps_rows : List ℕ → Bool
-keeps_rows head = eqb (refusal (kind head) (body_length head) 0) 0
+keeps_rows head = is_none (refusal (kind head) (body_length head) 0)
 
 -- ---- a byte takes its place
 
@@ -140,7 +146,7 @@ said link head rows n bytes = texts (state link head rows) (take n bytes)
 
 unfoldable pub last_text : Link → List ℕ
 last_text link =
-    let cut = outcome_line (link.lines + 1) (Refused 8) ++ end_line (link.lines + 1) in
+    let cut = outcome_line (link.lines + 1) (Err (Refused Cut)) ++ end_line (link.lines + 1) in
     when eqb link.passed 0 then end_line link.lines else cut
 
 unfoldable pub closed : Link → Link

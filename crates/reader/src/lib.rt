@@ -10,7 +10,8 @@ ghost use Rattle.record.specs.Record.{body_length, kind, size, refusal};
 ghost use Rattle.reader.specs.Reader.{state, started, unfinished, listening, kept, up_to_end, fed, said, last_text};
 ghost use Rattle.reader.specs.Parts.{word_on, rows_on, head_on, of_header, of_fields, of_rows, placed_up};
 
-use solve::Outcome;
+use rows::Refusal;
+use solve::Unsolved;
 
 // The bytes that count, at most.
 pub const MOST_BYTES: u64 = 0x8000_0000_0000_0000;
@@ -18,7 +19,7 @@ pub const MOST_BYTES: u64 = 0x8000_0000_0000_0000;
 #[repr(C)]
 #[derive(Clone, Copy)]
 pub struct Link {
-    // 1 from the start until the end is told.
+    // 1 from the start until the end is told; a number, since C hands the record over and may put anything there.
     pub live: u64,
     // Lines printed so far.
     pub lines: u64,
@@ -58,8 +59,8 @@ pub fn start(limit: u64) -> Link
 
 // ---- the record in hand by its header
 
-// Refusal 9, 10 or 2 with a normalise byte of 0; 0 where there is something to solve.
-fn number_of(head: &[u8; record::ROWS_AT]) -> u64
+// Refusal 9, 10 or 2 with a normalise byte of 0.
+fn refusal_by_header(head: &[u8; record::ROWS_AT]) -> Option<Refusal>
     ensures { result ≡ refusal (kind head.now) (body_length head.now) 0 }
 {
     record::refusal(record::kind_of(head), record::body_length(head), 0)
@@ -68,14 +69,10 @@ fn number_of(head: &[u8; record::ROWS_AT]) -> u64
 fn kept_of(head: &[u8; record::ROWS_AT]) -> usize
     ensures { result ≡ kept head.now }
 {
-    let number = number_of(head);
-    if number == 0 {
-        return record::ROWS_AT;
+    match refusal_by_header(head) {
+        Some(refusal) if refusal != Refusal::TooMany => record::HEADER,
+        _ => record::ROWS_AT,
     }
-    if number == 2 {
-        return record::ROWS_AT;
-    }
-    record::HEADER
 }
 
 fn size_of(head: &[u8; record::ROWS_AT]) -> usize
@@ -120,7 +117,7 @@ fn take_header(passed: usize, head: &mut [u8; record::ROWS_AT], bytes: &[u8]) ->
     if passed >= record::HEADER {
         return 0;
     }
-    let n = gather::least(record::HEADER - passed, bytes.len());
+    let n = (record::HEADER - passed).min(bytes.len());
     text::put(head, passed, &bytes[..n]);
     n
 }
@@ -130,11 +127,11 @@ fn take_fields(passed: usize, head: &mut [u8; record::ROWS_AT], bytes: &[u8]) ->
     ensures taken { result ≡ of_fields passed head.old bytes.now }
     ensures head { head.new ≡ head_on passed head.old (take result bytes.now) }
 {
-    let end = gather::least(record::ROWS_AT, size_of(head));
+    let end = record::ROWS_AT.min(size_of(head));
     if passed >= end {
         return 0;
     }
-    let n = gather::least(end - passed, bytes.len());
+    let n = (end - passed).min(bytes.len());
     if passed < kept_of(head) {
         text::put(head, passed, &bytes[..n]);
     }
@@ -170,8 +167,8 @@ fn take_rows(
             word: word,
         };
     }
-    let n = gather::least(size_of(head) - passed, bytes.len());
-    if number_of(head) != 0 {
+    let n = (size_of(head) - passed).min(bytes.len());
+    if refusal_by_header(head).is_some() {
         return Rows {
             taken: n,
             word: word,
@@ -272,6 +269,6 @@ pub fn finish(link: Link, out: &mut [u8], at: usize) -> usize
         return text::put_end(out, at, link.lines);
     }
     let number = link.lines + 1;
-    let end = text::put_line(out, at, number, Outcome::Refused(8));
+    let end = text::put_line(out, at, number, Err(Unsolved::Refused(Refusal::Cut)));
     text::put_end(out, end, number)
 }

@@ -1,13 +1,11 @@
 -- `active_basis_supports_max_y`: the active rows hold the point up. Assumes nothing.
-use Rattle.std.specs.Prelude.{ℕ, Bool, false, not, ◌&&◌, ◌||◌, List, eqb, Float}
+use Rattle.std.specs.Prelude.{ℕ, Option, Some, None, Bool, false, not, ◌&&◌, ◌||◌, List, eqb, Float}
 use Rattle.std.specs.Float.Ieee.{neg}
 use Rattle.float.specs.Operators.{when◌then◌else◌, ◌⊘◌, ◌≺◌, ◌≼◌, ◌≻◌, ◌≈◌}
 use Rattle.float.specs.Float.{zero, abs, finite}
 use Rattle.rows.specs.declared.Row.{Row}
 use Rattle.rows.specs.declared.Point.{Point}
 use Rattle.rows.specs.Rows.{row_at, residual, determinant, singular}
-use Rattle.active.specs.declared.Slot.{Slot}
-use Rattle.active.specs.declared.Slot.TheVariants.{NoRow, Holds}
 use Rattle.active.specs.declared.Active.{Active}
 use Rattle.step.specs.declared.Frame.{Frame}
 
@@ -34,10 +32,10 @@ unfoldable pub two_support : Frame → ℕ → Point → ℕ → ℕ → Row →
 two_support F pinned p i j r s =
     (eqb pinned i || eqb pinned j) && on_boundary F p r && on_boundary F p s && (when eqb i j then alone F.bound p r else together r s)
 
-unfoldable pub supported_by : List Row → Frame → ℕ → Point → Slot → Slot → Bool
-supported_by R F pinned p NoRow second = false
-supported_by R F pinned p (Holds i) NoRow = one_supports F pinned p i (row_at R i)
-supported_by R F pinned p (Holds i) (Holds j) = two_support F pinned p i j (row_at R i) (row_at R j)
+unfoldable pub supported_by : List Row → Frame → ℕ → Point → Option ℕ → Option ℕ → Bool
+supported_by R F pinned p None second = false
+supported_by R F pinned p (Some i) None = one_supports F pinned p i (row_at R i)
+supported_by R F pinned p (Some i) (Some j) = two_support F pinned p i j (row_at R i) (row_at R j)
 
 unfoldable pub supports : List Row → Frame → ℕ → Point → Active → Bool
 supports R F pinned p act = supported_by R F pinned p act.first act.second

@@ -4,29 +4,20 @@
 ghost use Rattle.std.specs.Prelude.{◌≡◌, ◌||◌, ◌+◌, ◌*◌, ◌≤◌, ◌<◌, eqb, length, take};
 ghost use Rattle.readings.specs.Readings.{within};
 ghost use Rattle.rows.specs.Rows.{rows_of, row_at};
-ghost use Rattle.step.specs.declared.Found.TheVariants.{Failed};
-ghost use Rattle.step.specs.Step.{stepped};
 ghost use Rattle.rebuild.specs.Supports.{on_boundary, alone, factors, together, one_supports, two_support, supports};
-ghost use Rattle.rebuild.specs.Rebuild.{ordered, plausible, tested, candidate, better, turn, rebuild, turned};
+ghost use Rattle.rebuild.specs.Rebuild.{ordered, plausible, tested, candidate, better, turn, rebuild};
 
-use active::{Active, Slot};
+use active::Active;
+use readings::Paid;
 use rows::{Point, Row};
-use scan::Scan;
-use step::{Found, Frame, State, Stepped};
+use step::{Frame, State};
 
-// What a row makes of the search: it goes on with the best so far, or it is won.
+// What a row makes of the search: it goes on with the best so far, or it is won. `ControlFlow` has this shape, and its words, to
+// continue and to break, would say less.
 #[derive(Clone, Copy)]
 pub enum Turn {
-    On(Found),
+    On(Option<State>),
     Won(State),
-}
-
-// The same with the readings left; or too few were left.
-#[derive(Clone, Copy)]
-pub enum Turned {
-    On(Found, u64),
-    Won(State, u64),
-    Spent,
 }
 
 // ---- the active rows hold the point up
@@ -96,16 +87,12 @@ fn two_support(f: Frame, pinned: usize, p: Point, i: usize, j: usize, r: Row, s:
 fn active_basis_supports_max_y(rows: &[f64], f: Frame, pinned: usize, p: Point, act: Active) -> bool
     ensures { result ≡ supports (rows_of rows.now) f pinned p act }
 {
-    let first = act.first;
-    let second = act.second;
-    match first {
-        Slot::NoRow => false,
-        Slot::Holds(i) => {
+    match (act.first, act.second) {
+        (None, _) => false,
+        (Some(i), None) => one_supports(f, pinned, p, i, rows::row_or_zeros(rows, i)),
+        (Some(i), Some(j)) => {
             let r = rows::row_or_zeros(rows, i);
-            match second {
-                Slot::NoRow => one_supports(f, pinned, p, i, r),
-                Slot::Holds(j) => two_support(f, pinned, p, i, j, r, rows::row_or_zeros(rows, j)),
-            }
+            two_support(f, pinned, p, i, j, r, rows::row_or_zeros(rows, j))
         }
     }
 }
@@ -116,14 +103,12 @@ fn active_basis_supports_max_y(rows: &[f64], f: Frame, pinned: usize, p: Point, 
 fn ordered(act: Active) -> Active
     ensures { result ≡ ordered act }
 {
-    let first = act.first;
-    let second = act.second;
-    match first {
-        Slot::NoRow => Active {
-            first: second,
-            second: Slot::NoRow,
-        },
-        Slot::Holds(_) => act,
+    if act.first.is_some() {
+        return act;
+    }
+    Active {
+        first: act.second,
+        second: None,
     }
 }
 
@@ -138,24 +123,26 @@ fn plausible(f: Frame, top: f64, floor: f64, r: Row, p: Point) -> bool
 }
 
 // No residual is above the tolerance, and the active rows, of which `pinned` is one, hold the point up.
-fn tested(rows: &[f64], upto: usize, f: Frame, pinned: usize, s: State, left: u64) -> Stepped
+fn tested(
+    rows: &[f64],
+    upto: usize,
+    f: Frame,
+    pinned: usize,
+    s: State,
+    left: u64,
+) -> Paid<Option<State>>
     requires { 3 * upto ≤ length rows.now }
-    ensures { result ≡ stepped (within left (tested (rows_of rows.now) f upto pinned s)) }
+    ensures { result ≡ within left (tested (rows_of rows.now) f upto pinned s) }
 {
-    match scan::none_above(rows, upto, s.at, f.epsilon, left) {
-        Scan::Spent => Stepped::Spent,
-        Scan::Fail(rest) => Stepped::Failed(rest),
-        Scan::Pass(rest) => {
-            if rest < 2 {
-                return Stepped::Spent;
-            }
-            let over = rest - 2;
-            if active_basis_supports_max_y(rows, f, pinned, s.at, s.active) {
-                return Stepped::Done(s, over);
-            }
-            Stepped::Failed(over)
-        }
+    let (ok, rest) = scan::none_above(rows, upto, s.at, f.epsilon, left)?;
+    if !ok {
+        return Ok((None, rest));
     }
+    let over = readings::pay(rest, 2)?;
+    if active_basis_supports_max_y(rows, f, pinned, s.at, s.active) {
+        return Ok((Some(s), over));
+    }
+    Ok((None, over))
 }
 
 // The best point on the boundary of row i, where it qualifies.
@@ -168,45 +155,36 @@ fn candidate(
     i: usize,
     r: Row,
     left: u64,
-) -> Stepped
+) -> Paid<Option<State>>
     requires { (3 * upto ≤ length rows.now) × (3 * i + 2 < length rows.now) }
-    ensures { result ≡ stepped (within left (candidate (rows_of rows.now) f upto seed floor i r)) }
+    ensures { result ≡ within left (candidate (rows_of rows.now) f upto seed floor i r) }
 {
     let fresh = State {
         at: seed,
         active: active::no_rows(),
     };
-    match step::incre_step_2d(rows, i, upto, f, fresh, left) {
-        Stepped::Spent => Stepped::Spent,
-        Stepped::Failed(rest) => Stepped::Failed(rest),
-        Stepped::Done(s, rest) => {
-            let at = s.at;
-            if plausible(f, seed.y, floor, r, at) {
-                let resting = State {
-                    at: at,
-                    active: ordered(s.active),
-                };
-                return tested(rows, upto, f, i, resting, rest);
-            }
-            Stepped::Failed(rest)
+    let (found, rest) = step::incre_step_2d(rows, i, upto, f, fresh, left)?;
+    match found {
+        Some(s) if plausible(f, seed.y, floor, r, s.at) => {
+            let resting = State {
+                active: ordered(s.active),
+                ..s
+            };
+            tested(rows, upto, f, i, resting, rest)
         }
+        _ => Ok((None, rest)),
     }
 }
 
 // ---- the search
 
 // The higher of two; the earlier of two at one level.
-fn better(s: State, best: Found) -> Found
+fn better(s: State, best: Option<State>) -> Option<State>
     ensures { result ≡ better s best }
 {
     match best {
-        Found::Failed => Found::Done(s),
-        Found::Done(t) => {
-            if s.at.y > t.at.y {
-                return Found::Done(s);
-            }
-            best
-        }
+        Some(t) if !(s.at.y > t.at.y) => best,
+        _ => Some(s),
     }
 }
 
@@ -218,26 +196,22 @@ fn turn_of(
     seed: Point,
     floor: f64,
     i: usize,
-    best: Found,
+    best: Option<State>,
     left: u64,
-) -> Turned
+) -> Paid<Turn>
     requires { (3 * upto ≤ length rows.now) × (i < upto) }
-    ensures { result ≡ turned (within left (turn (rows_of rows.now) f upto seed floor i (row_at (rows_of rows.now) i) best)) }
+    ensures { result ≡ within left (turn (rows_of rows.now) f upto seed floor i (row_at (rows_of rows.now) i) best) }
 {
     // Read even with no reading left: only its floats tell whether it has a boundary, and a row passed over takes none.
     let r = rows::row_at(rows, i);
     if rows::no_boundary(r) {
-        return Turned::On(best, left);
+        return Ok((Turn::On(best), left));
     }
-    match candidate(rows, upto, f, seed, floor, i, r, left) {
-        Stepped::Spent => Turned::Spent,
-        Stepped::Failed(rest) => Turned::On(best, rest),
-        Stepped::Done(s, rest) => {
-            if s.at.y == seed.y {
-                return Turned::Won(s, rest);
-            }
-            Turned::On(better(s, best), rest)
-        }
+    let (found, rest) = candidate(rows, upto, f, seed, floor, i, r, left)?;
+    match found {
+        None => Ok((Turn::On(best), rest)),
+        Some(s) if s.at.y == seed.y => Ok((Turn::Won(s), rest)),
+        Some(s) => Ok((Turn::On(better(s, best)), rest)),
     }
 }
 
@@ -249,29 +223,19 @@ pub fn rebuild_2d_prefix(
     seed: Point,
     floor: f64,
     left: u64,
-) -> Stepped
+) -> Paid<Option<State>>
     requires { 3 * upto ≤ length rows.now }
-    ensures { result ≡ stepped (within left (rebuild (rows_of rows.now) f upto seed floor (take upto (rows_of rows.now)) 0 Failed)) }
+    ensures { result ≡ within left (rebuild (rows_of rows.now) f upto seed floor (take upto (rows_of rows.now)) 0 None) }
 {
-    let mut best = Found::Failed;
+    let mut best = None;
     let mut rest = left;
-    let mut i = 0usize;
-    'rows: while i < upto {
-        match turn_of(rows, upto, f, seed, floor, i, best, rest) {
-            Turned::Spent => {
-                return Stepped::Spent;
-            }
-            Turned::Won(s, over) => {
-                best = Found::Done(s);
-                rest = over;
-                break 'rows;
-            }
-            Turned::On(found, over) => {
-                best = found;
-                rest = over;
-            }
+    for i in 0..upto {
+        let (turn, over) = turn_of(rows, upto, f, seed, floor, i, best, rest)?;
+        rest = over;
+        match turn {
+            Turn::Won(s) => return Ok((Some(s), rest)),
+            Turn::On(found) => best = found,
         }
-        i += 1;
     }
-    step::shown(best, rest)
+    Ok((best, rest))
 }

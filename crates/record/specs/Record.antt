@@ -1,12 +1,12 @@
 -- A record of RULES 12: a header, the body's length and the kind, and a body; and what comes of it. Assumes nothing.
-use Rattle.std.specs.Prelude.{ℕ, ◌+◌, ◌-◌, ◌/◌, ◌%◌, not, ◌||◌, List, ◌++◌, eqb, ltb, take, drop, Float}
+use Rattle.std.specs.Prelude.{ℕ, ◌+◌, ◌-◌, ◌/◌, ◌%◌, Option, Some, None, not, ◌||◌, List, ◌++◌, eqb, ltb, take, drop, Float}
 use Rattle.float.specs.Operators.{when◌then◌else◌}
 use Rattle.once.specs.declared.Normalize.{Normalize}
 use Rattle.once.specs.declared.Normalize.TheVariants.{Off, Source}
 use Rattle.once.specs.declared.Task.{Task}
-use Rattle.solve.specs.declared.Outcome.{Outcome}
-use Rattle.solve.specs.declared.Outcome.TheVariants.{Refused}
-use Rattle.solve.specs.Solve.{Ended, solve}
+use Rattle.rows.specs.declared.Refusal.{Refusal}
+use Rattle.rows.specs.declared.Refusal.TheVariants.{TooMany, UnknownKind, Malformed}
+use Rattle.solve.specs.Solve.{Ended, Outcome, solve, unless_refused}
 use Rattle.record.specs.Sizes.{header_bytes, field_bytes, row_bytes, record_rows, rows_at}
 use Rattle.record.specs.Bytes.{field, float, floats}
 
@@ -50,22 +50,22 @@ row_floats bytes = floats (float_count bytes) (drop rows_at bytes)
 
 -- ---- what comes of a record that is all there
 
--- refusals 9, 10 and 2, in that order, by the kind, the body's length and the normalise byte; 0 where there is something to solve
-unfoldable pub refusal : ℕ → ℕ → ℕ → ℕ
+-- refusals 9, 10 and 2, in that order, by the kind, the body's length and the normalise byte
+unfoldable pub refusal : ℕ → ℕ → ℕ → Option Refusal
 refusal kind length byte =
-    when not (eqb kind 1) then 9
-    else when ltb length field_bytes || not (eqb ((length - field_bytes) % row_bytes) 0) || ltb 1 byte then 10
-    else when ltb record_rows ((length - field_bytes) / row_bytes) then 2
-    else 0
+    when not (eqb kind 1) then Some UnknownKind
+    else when ltb length field_bytes || not (eqb ((length - field_bytes) % row_bytes) 0) || ltb 1 byte then Some Malformed
+    else when ltb record_rows ((length - field_bytes) / row_bytes) then Some TooMany
+    else None
 
 -- what comes of a record by the bytes before its rows and by the floats of its rows, behind which others may stand: a refusal, which leaves all floats
 -- as they were, or what the solve comes to, which leaves its rows
 unfoldable pub answered : List ℕ → List Float → Ended (List Float)
 answered head floats =
-    let number = refusal (kind head) (body_length head) (normalize_byte head) in
     let n = float_count head in
     let solved = solve (task head) (allowance head) (take n floats) in
-    when eqb number 0 then record { outcome = solved.outcome; rows = solved.rows ++ drop n floats } else record { outcome = Refused number; rows = floats }
+    unless_refused (refusal (kind head) (body_length head) (normalize_byte head)) floats
+    (record { outcome = solved.outcome; rows = solved.rows ++ drop n floats })
 
 unfoldable pub outcome : List ℕ → Outcome
 outcome bytes = (answered bytes (row_floats bytes)).outcome

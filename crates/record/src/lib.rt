@@ -8,7 +8,7 @@ ghost use Rattle.record.specs.Record.{body_length, kind, normalize_byte, mode, t
 
 use line::Tolerances;
 use once::{Normalize, Task, WarmStart};
-use solve::Outcome;
+use solve::{Outcome, Unsolved};
 
 // ---- sizes, in bytes but for ROWS and FLOATS
 
@@ -67,6 +67,7 @@ pub fn le64(bytes: &[u8], at: usize) -> u64
     le32(here, 0) + le32(here, 4) * 0x1_0000_0000
 }
 
+#[tactic(auto, unfolding(crate::specs::Sizes::rows_at, crate::specs::Bytes::float))]
 fn float_at(head: &[u8; ROWS_AT], at: usize) -> f64
     requires { at + 8 ≤ rows_at }
     ensures { result ≡ float at head.now }
@@ -76,6 +77,7 @@ fn float_at(head: &[u8; ROWS_AT], at: usize) -> f64
 
 // ---- the header
 
+#[tactic(auto, unfolding(crate::specs::Record::body_length))]
 pub fn body_length(head: &[u8; ROWS_AT]) -> u64
     ensures value { result ≡ body_length head.now }
     ensures small { result < 2 ^ 32 }
@@ -83,6 +85,8 @@ pub fn body_length(head: &[u8; ROWS_AT]) -> u64
     le32(head, 0)
 }
 
+// A number: any below 2^16 can stand there, of which one is a kind.
+#[tactic(auto, unfolding(crate::specs::Record::kind))]
 pub fn kind_of(head: &[u8; ROWS_AT]) -> u64
     ensures { result ≡ kind head.now }
 {
@@ -97,31 +101,31 @@ fn normalize_byte(head: &[u8; ROWS_AT]) -> u64
 
 // ---- what comes of a record
 
-// Refusal 9, 10 or 2 by the kind, the body's length and the normalise byte; 0 where there is something to solve.
-pub fn refusal(kind: u64, length: u64, byte: u64) -> u64
+// Refusal 9, 10 or 2 by the kind, the body's length and the normalise byte.
+pub fn refusal(kind: u64, length: u64, byte: u64) -> Option<rows::Refusal>
     ensures { result ≡ refusal kind length byte }
 {
     if kind != 1 {
-        return 9;
+        return Some(rows::Refusal::UnknownKind);
     }
     if length < FIELDS {
-        return 10;
+        return Some(rows::Refusal::Malformed);
     }
     let rest = length - FIELDS;
     if rest % ROW != 0 {
-        return 10;
+        return Some(rows::Refusal::Malformed);
     }
     if byte > 1 {
-        return 10;
+        return Some(rows::Refusal::Malformed);
     }
     if rest / ROW > ROWS {
-        return 2;
+        return Some(rows::Refusal::TooMany);
     }
-    0
+    None
 }
 
 // The same, of the record that is held.
-fn refusal_of(head: &[u8; ROWS_AT]) -> u64
+fn refusal_of(head: &[u8; ROWS_AT]) -> Option<rows::Refusal>
     ensures { result ≡ refusal (kind head.now) (body_length head.now) (normalize_byte head.now) }
 {
     refusal(kind_of(head), body_length(head), normalize_byte(head))
@@ -136,6 +140,7 @@ fn mode_of(byte: u64) -> Normalize
     Normalize::Source
 }
 
+#[tactic(auto, unfolding(crate::specs::Sizes::rows_at))]
 fn task_of(head: &[u8; ROWS_AT]) -> Task
     ensures { result ≡ task head.now }
 {
@@ -160,9 +165,8 @@ pub fn outcome_of(head: &[u8; ROWS_AT], floats: &mut [f64]) -> Outcome
     ensures answer { result ≡ (answered head.now floats.old).outcome }
     ensures floats { floats.new ≡ (answered head.now floats.old).rows }
 {
-    let number = refusal_of(head);
-    if number != 0 {
-        return Outcome::Refused(number);
+    if let Some(refusal) = refusal_of(head) {
+        return Err(Unsolved::Refused(refusal));
     }
     let n = ((body_length(head) - FIELDS) / 8) as usize;
     solve::solve(&mut floats[..n], task_of(head), le64(head, 46))

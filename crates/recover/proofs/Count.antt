@@ -1,4 +1,5 @@
 -- Recovery takes at most 2 u^2 + 9 u readings with u rows before `upto`; for the rows that an entry takes these fit in a u64. Assumes nothing.
+use Rattle.std.specs.Prelude.{Option, Float}
 use mathlib.Core.List.{List}
 use Prim.Native.Nat.{ℕ, ◌+◌, ◌*◌, ◌^◌, ◌≤◌, ◌<◌}
 use native.Mathlib.Nat.{mul-le-mul}
@@ -9,13 +10,12 @@ use Rattle.rows.specs.declared.Row.{Row}
 use Rattle.rows.specs.Constants.{most_rows}
 use Rattle.step.specs.declared.Frame.{Frame}
 use Rattle.step.specs.declared.State.{State}
-use Rattle.project.specs.declared.Fixed.{Fixed}
 use Rattle.project.proofs.Count.{project_takes}
 use Rattle.rebuild.proofs.Count.{rebuild_takes}
 use Rattle.recover.specs.Recover.{on_boundaries, recover}
 
 module _ (R : List Row) (F : Frame) (upto : ℕ) (s : State) where
-  on_boundaries_takes : (fixed : Fixed) → on_boundaries R F upto s fixed at_most length (take upto R) * (2 * length (take upto R) + 3)
+  on_boundaries_takes : (fixed : Option Float) → on_boundaries R F upto s fixed at_most length (take upto R) * (2 * length (take upto R) + 3)
   unfolding on_boundaries
   on_boundaries_takes fixed = bind_pure_takes _ (rebuild_takes R F upto _ _ (take upto R) 0 _)
 

@@ -1,29 +1,29 @@
 -- The entry, case by case. The readings that it has left are more than recovery takes.
+use Rattle.std.specs.Prelude.{Option, Some, None, Result, Ok, Err}
+use Rattle.std.specs.Option.{ok_or}
+use Rattle.std.specs.Result.{result_unwrap_or}
 use mathlib.Core.Path.{◌≡◌, sym, ap, ◌∙◌}
 use mathlib.Core.List.{List}
-use Prim.Native.Nat.{ℕ, ◌/◌, ◌≤◌, ◌<◌}
+use Prim.Native.Nat.{ℕ, ◌-◌, ◌/◌, ◌≤◌, ◌<◌}
 use native.Mathlib.Omega.{arith}
-use borrow.Author.Tests.{eq-eqb, ne_eqb, lt-ltb, le-ltb}
+use borrow.Author.Tests.{lt-ltb, le-ltb}
 use lib.ListN.{length}
 use lib.Ieee.{Float}
 use Rattle.float.specs.Operators.{when◌then◌else◌}
-use Rattle.readings.specs.Readings.{paid, within}
-use Rattle.readings.proofs.Laws.{was_paid, was_stopped}
+use Rattle.readings.specs.Readings.{Counted, Paid, paid, within}
+use Rattle.readings.proofs.Laws.{within_fits}
 use Rattle.rows.specs.declared.Point.{Point}
+use Rattle.rows.specs.declared.Refusal.{Refusal}
+use Rattle.rows.specs.declared.Refusal.TheVariants.{NothingFound, PrefixTooLong}
+use Rattle.rows.specs.Refusals.{unless}
 use Rattle.rows.specs.Rows.{refusal, rows_of}
 use Rattle.rows.proofs.Lengths.{length-rows_of}
-use Rattle.rows.proofs.Refusals.{taken}
+use Rattle.rows.proofs.Refusals.{taken, was_taken, was_refused}
+use Rattle.active.specs.declared.Active.{Active}
+use Rattle.active.specs.Collector.{held, collected}
 use Rattle.step.specs.declared.Frame.{Frame}
 use Rattle.step.specs.declared.State.{State}
-use Rattle.step.specs.declared.Found.{Found}
-use Rattle.step.specs.declared.Stepped.{Stepped}
-use Rattle.step.specs.declared.Stepped.TheVariants.{Done, Failed, Spent}
-use Rattle.active.specs.declared.Collector.{Collector}
-use Rattle.step.specs.Step.{stepped}
-use Rattle.active.specs.Collector.{held, collected}
-use Rattle.step.proofs.Answers.{tells}
 use Rattle.recover.specs.declared.Recovered.{Recovered}
-use Rattle.recover.specs.declared.Recovered.TheVariants.{At, Refused}
 use Rattle.recover.specs.Recover.{recover, recovered, recovering}
 use Rattle.recover.proofs.Count.{recover_fits}
 
@@ -31,41 +31,58 @@ use Rattle.recover.proofs.Count.{recover_fits}
 abbrev most : ℕ
 most = 18446744073709551615
 
-module _ (flat : List Float) (upto : ℕ) (p : Point) (F : Frame) (coll : Collector) where
-  abbrev entry : Recovered
+-- what the code makes of a point that recovery found, or of none
+nothing : (coll : Option Active) (found : Option State) {why : Refusal} → ok_or found NothingFound ≡ Err why → recovered coll found ≡ Err why
+unfolding recovered
+nothing coll None {why} h = let same : NothingFound ≡ why = cc in ap Err same
+nothing coll (Some t) h = absurd (cc)
+
+something : (coll : Option Active) (found : Option State) {t : State} → ok_or found NothingFound ≡ Ok t
+    → recovered coll found ≡ Ok (record { at = t.at; collector = collected coll t.active })
+unfolding recovered
+something coll None h = absurd (cc)
+something coll (Some s) {t} h = let same : s ≡ t = cc in rw same
+
+module _ (flat : List Float) (upto : ℕ) (p : Point) (F : Frame) (coll : Option Active) where
+  abbrev entry : Result Recovered Refusal
   entry = recovering flat upto p F coll
 
   abbrev start : State
   start = record { at = p; active = held coll }
 
-  module _ {number : ℕ} (refusing : number ≡ refusal 3 (length flat)) where
-    pub entry_refuses : (number ≡ 0 → ⊥) → Refused number ≡ entry
-    unfolding recovering when◌then◌else◌
-    entry_refuses h = rw (← refusing, ne_eqb _ _ h)
+  module _ {count : Result ℕ Refusal} (counting : count ≡ unless (refusal 3 (length flat)) (length flat / 3)) where
+    pub entry_refuses : {why : Refusal} → count ≡ Err why → Err why ≡ entry
+    unfolding recovering
+    entry_refuses e = rw (was_refused _ _ (sym counting ∙ e))
 
-    module _ (accepted : number ≡ 0) where
-      pub prefix_too_long : length flat / 3 < upto → Refused 7 ≡ entry
+    module _ {n : ℕ} (accepted : count ≡ Ok n) where
+      was : (refusal 3 (length flat) ≡ None) × (length flat / 3 ≡ n)
+      was = was_taken _ (sym counting ∙ accepted)
+
+      pub prefix_too_long : n < upto → Err PrefixTooLong ≡ entry
       unfolding recovering when◌then◌else◌
-      prefix_too_long h = rw (← refusing, eq-eqb _ _ accepted, lt-ltb _ _ h)
+      prefix_too_long h = rw (was.0, was.1, lt-ltb _ _ h)
 
-      module _ (inside : upto ≤ length flat / 3) {begun : State} (begins : begun ≡ start)
-          {answer : Stepped} (call : answer ≡ stepped (within most (recover (rows_of flat) F upto begun))) where
-        recovery : answer ≡ stepped (within most (recover (rows_of flat) F upto start))
-        recovery = rw begins at call
+      module _ (inside : upto ≤ n) {begun : State} (begins : begun ≡ start)
+          {answer : Paid (Option State)} (call : answer ≡ within most (recover (rows_of flat) F upto begun))
+          {got : Option State × ℕ} (taken_out : got ≡ result_unwrap_or answer (None, 0)) where
+        abbrev recovery : Counted (Option State)
+        recovery = recover (rows_of flat) F upto start
 
-        finds : {found : Found} {l : ℕ} → within most (recover (rows_of flat) F upto start) ≡ paid found l → recovered coll found ≡ entry
+        never_spent : recovery.readings ≤ most
+        never_spent = let few = (taken 3 (length flat) was.0).1 in omega (arith, recover_fits (rows_of flat) F upto start (rw length-rows_of few))
+
+        found : got.0 ≡ recovery.value
+        found =
+            let answered : answer ≡ paid recovery.value (most - recovery.readings) = (rw begins at call) ∙ within_fits most recovery never_spent in
+            ap (λ (p : Option State × ℕ). p.0) (taken_out ∙ ap (λ (a : Paid (Option State)). result_unwrap_or a (None, 0)) answered)
+
+        comes : recovered coll got.0 ≡ entry
         unfolding recovering when◌then◌else◌
-        finds e = rw (← refusing, eq-eqb _ _ accepted, le-ltb _ _ inside) (ap (recovered coll) (sym (was_paid _ _ e).1))
+        comes = rw (was.0, was.1, le-ltb _ _ inside) (ap (recovered coll) found)
 
-        pub entry_finds : {t : State} {l : ℕ} → answer ≡ Done t l → At t.at (collected coll t.active) ≡ entry
-        unfolding recovered
-        entry_finds e = finds (tells _ recovery e)
+        pub entry_fails : {why : Refusal} → ok_or got.0 NothingFound ≡ Err why → Err why ≡ entry
+        entry_fails h = sym (nothing coll got.0 h) ∙ comes
 
-        pub entry_fails : {l : ℕ} → answer ≡ Failed l → Refused 6 ≡ entry
-        unfolding recovered
-        entry_fails e = finds (tells _ recovery e)
-
-        pub never_spent : answer ≡ Spent → ⊥
-        never_spent e =
-            let few = (taken 3 (length flat) (sym refusing ∙ accepted)).1 in
-            omega (arith, was_stopped _ _ (tells _ recovery e), recover_fits (rows_of flat) F upto start (rw length-rows_of few))
+        pub entry_finds : {t : State} → ok_or got.0 NothingFound ≡ Ok t → Ok (record { at = t.at; collector = collected coll t.active }) ≡ entry
+        entry_finds h = sym (something coll got.0 h) ∙ comes

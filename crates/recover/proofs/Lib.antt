@@ -1,4 +1,3 @@
-pub mod Cases
 pub mod Named
 pub mod Count
 pub mod Entry

@@ -8,36 +8,31 @@
 //     recover UPTO X Y EPS REDUCED BOX FIRST SECOND n a b c .. = X Y FIRST SECOND | refused K FIRST SECOND
 #![tactic(auto)]
 
-ghost use Rattle.std.specs.Prelude.{◌≤◌, length, IfOk};
-
-use active::{Active, Collector, Slot};
-use line::{Bounds, Tolerances};
+use active::Active;
+use line::Tolerances;
 use recover::Recovered;
-use rows::{Crossing, Normalized, Point, Row};
+use rows::{Point, Refusal, Row};
 use std::io;
-use std::io::{ErrorKind, Read};
 use step::Frame;
-use vectors::Number;
+use vectors::{Lines, Words};
 
 // Each of these takes a line from its second word on.
 
-fn root(text: &[u8], at: usize) -> bool {
+fn root(words: Words) -> bool {
     let mut x = [0.0; 1];
-    let read = vectors::read_floats(text, at, &mut x);
-    let answer = [rounding::root::root(x[0])];
-    vectors::expected(text, read.at, &answer)
+    let (_, wanted) = words.read_floats(&mut x);
+    wanted.are(&[rounding::root::root(x[0])])
 }
 
-fn fused(text: &[u8], at: usize) -> bool {
+fn fused(words: Words) -> bool {
     let mut m = [0.0; 3];
-    let read = vectors::read_floats(text, at, &mut m);
-    let answer = [rounding::fused::fused(m[0], m[1], m[2])];
-    vectors::expected(text, read.at, &answer)
+    let (_, wanted) = words.read_floats(&mut m);
+    wanted.are(&[rounding::fused::fused(m[0], m[1], m[2])])
 }
 
-fn two(text: &[u8], at: usize) -> bool {
+fn two(words: Words) -> bool {
     let mut m = [0.0; 6];
-    let read = vectors::read_floats(text, at, &mut m);
+    let (_, wanted) = words.read_floats(&mut m);
     let first = Row {
         a: m[0],
         b: m[1],
@@ -48,229 +43,149 @@ fn two(text: &[u8], at: usize) -> bool {
         b: m[3],
         c: m[5],
     };
-    let answer = rows::solve_2x2(first, second);
-    match answer {
-        Crossing::Refused(k) => k == 5 && vectors::starts(text, read.at, b"refused 5\n"),
-        Crossing::At(p) => {
-            let point = [p.x, p.y];
-            vectors::expected(text, read.at, &point)
-        }
+    match rows::solve_2x2(first, second) {
+        Ok(p) => wanted.are(&[p.x, p.y]),
+        Err(refusal) => refusal == Refusal::Undecided && wanted.begin_with(b"refused 5\n"),
     }
 }
 
-fn normalizes(rows: &mut [f64], text: &[u8], at: usize) -> bool {
-    let answer = rows::normalize_lp2d(rows);
-    match answer {
-        Normalized::Refused(_) => false,
-        Normalized::Done => vectors::expected(text, at, rows),
+fn norm(words: Words) -> bool {
+    let mut room = [0.0; 12];
+    let (rows, wanted) = words.skip(1).read_floats(&mut room);
+    match rows::normalize_lp2d(rows) {
+        Ok(()) => wanted.are(rows),
+        Err(_) => false,
     }
 }
 
-fn norm(text: &[u8], at: usize) -> bool {
-    let mut rows = [0.0; 12];
-    let read = vectors::read_floats(text, vectors::past(text, at, b' '), &mut rows);
-    let n = read.count;
-    normalizes(&mut rows[..n], text, read.at)
-}
-
-fn bounds(pairs: &[f64], autonan: bool, tolerance: f64, text: &[u8], at: usize) -> bool {
+fn line(words: Words) -> bool {
+    let autonan = words.begin_with(b"1 ");
+    let mut tolerance = [0.0; 1];
+    words.skip(1).read_floats(&mut tolerance);
+    let mut room = [0.0; 12];
+    let (pairs, wanted) = words.skip(3).read_floats(&mut room);
     let tol = Tolerances {
-        feasibility: tolerance,
+        feasibility: tolerance[0],
         scale: 10.0,
     };
-    let answer = line::lp_1d(pairs, autonan, tol);
-    match answer {
-        Bounds::Refused(_) => false,
-        Bounds::Between(high, low) => {
-            let ends = [high, low];
-            vectors::expected(text, at, &ends)
-        }
+    match line::lp_1d(pairs, autonan, tol) {
+        Ok(bounds) => wanted.are(&[bounds.high, bounds.low]),
+        Err(_) => false,
     }
 }
 
-fn line(text: &[u8], at: usize) -> bool {
-    let autonan = vectors::starts(text, at, b"1 ");
-    let second = vectors::past(text, at, b' ');
-    let mut tolerance = [0.0; 1];
-    vectors::read_floats(text, second, &mut tolerance);
-    let third = vectors::past(text, second, b' ');
-    let mut pairs = [0.0; 12];
-    let read = vectors::read_floats(text, vectors::past(text, third, b' '), &mut pairs);
-    let n = read.count;
-    bounds(&pairs[..n], autonan, tolerance[0], text, read.at)
+// The row that stands next by its number; `-` is none.
+fn slot_at(words: Words) -> Option<usize> {
+    Some(words.number()? as usize)
 }
 
-// The slot that stands at `at`: a row's number, or `-`.
-fn slot_at(text: &[u8], at: usize) -> Slot {
-    let number = vectors::number_at(text, at);
-    match number {
-        Number::Of(n) => Slot::Holds(n as usize),
-        Number::Nothing => Slot::NoRow,
-    }
+// Whether the two slots stand next.
+fn collects(act: Active, words: Words) -> bool {
+    act.first == slot_at(words) && act.second == slot_at(words.skip(1))
 }
 
-fn same(here: Slot, there: Slot) -> bool {
-    match here {
-        Slot::NoRow => match there {
-            Slot::NoRow => true,
-            Slot::Holds(_) => false,
-        },
-        Slot::Holds(i) => match there {
-            Slot::NoRow => false,
-            Slot::Holds(j) => i == j,
-        },
-    }
-}
-
-// Whether the two slots stand at `at`.
-fn collects(act: Active, text: &[u8], at: usize) -> bool {
-    let first = act.first;
-    let second = act.second;
-    same(first, slot_at(text, at)) && same(second, slot_at(text, vectors::past(text, at, b' ')))
-}
-
-// Whether the number stands at `at`.
-fn numbered(k: u64, text: &[u8], at: usize) -> bool {
-    let number = vectors::number_at(text, at);
-    match number {
-        Number::Of(n) => n == k,
-        Number::Nothing => false,
-    }
-}
-
-fn recovers(
-    rows: &[f64],
-    upto: usize,
-    m: [f64; 5],
-    before: Active,
-    text: &[u8],
-    at: usize,
-) -> bool {
+fn recovers(rows: &[f64], upto: usize, m: [f64; 5], before: Active, wanted: Words) -> bool {
     let point = Point { x: m[0], y: m[1] };
     let frame = Frame {
         bound: m[4],
         epsilon: m[2],
         reduced: m[3],
     };
-    let answer = recover::recover_2d_prefix(rows, upto, point, frame, Collector::On(before));
-    let second = vectors::past(text, at, b' ');
-    let third = vectors::past(text, second, b' ');
-    match answer {
-        Recovered::Refused(k) => {
-            vectors::starts(text, at, b"refused ")
-                && numbered(k, text, second)
-                && collects(before, text, third)
+    match recover::recover_2d_prefix(rows, upto, point, frame, Some(before)) {
+        Ok(Recovered { at, collector }) => {
+            wanted.are(&[at.x, at.y])
+                && collector.is_some_and(|after| collects(after, wanted.skip(2)))
         }
-        Recovered::At(p, coll) => match coll {
-            Collector::Off => false,
-            Collector::On(after) => {
-                let found = [p.x, p.y];
-                vectors::expected(text, at, &found) && collects(after, text, third)
-            }
-        },
+        Err(refusal) => {
+            wanted.begin_with(b"refused ")
+                && wanted.skip(1).number() == Some(refusal.into())
+                && collects(before, wanted.skip(2))
+        }
     }
 }
 
-// The position behind six words: a prefix and five floats.
-fn behind_six(text: &[u8], at: usize) -> usize {
-    let one = vectors::past(text, at, b' ');
-    let two = vectors::past(text, one, b' ');
-    let three = vectors::past(text, two, b' ');
-    let four = vectors::past(text, three, b' ');
-    let five = vectors::past(text, four, b' ');
-    vectors::past(text, five, b' ')
-}
-
-fn recovery(text: &[u8], at: usize) -> bool {
-    let upto = vectors::number_at(text, at);
-    let Number::Of(prefix) = upto else {
+fn recovery(words: Words) -> bool {
+    let Some(upto) = words.number() else {
         return false;
     };
     let mut m = [0.0; 5];
-    vectors::read_floats(text, vectors::past(text, at, b' '), &mut m);
-    let first = behind_six(text, at);
-    let second = vectors::past(text, first, b' ');
+    words.skip(1).read_floats(&mut m);
     let before = Active {
-        first: slot_at(text, first),
-        second: slot_at(text, second),
+        first: slot_at(words.skip(6)),
+        second: slot_at(words.skip(7)),
     };
-    let count = vectors::past(text, second, b' ');
-    let mut rows = [0.0; 18];
-    let read = vectors::read_floats(text, vectors::past(text, count, b' '), &mut rows);
-    let n = read.count;
-    recovers(&rows[..n], prefix as usize, m, before, text, read.at)
+    let mut room = [0.0; 18];
+    let (rows, wanted) = words.skip(9).read_floats(&mut room);
+    recovers(rows, upto as usize, m, before, wanted)
 }
 
-// Whether the line at `at`, which begins with a known word, comes out as it says.
-fn holds(text: &[u8], at: usize) -> bool {
-    let second = vectors::past(text, at, b' ');
-    if vectors::starts(text, at, b"root ") {
-        return root(text, second);
-    }
-    if vectors::starts(text, at, b"fused ") {
-        return fused(text, second);
-    }
-    if vectors::starts(text, at, b"two ") {
-        return two(text, second);
-    }
-    if vectors::starts(text, at, b"norm ") {
-        return norm(text, second);
-    }
-    if vectors::starts(text, at, b"line ") {
-        return line(text, second);
-    }
-    if vectors::starts(text, at, b"recover ") {
-        return recovery(text, second);
-    }
-    false
+// What the original answered.
+#[derive(Clone, Copy)]
+enum Kind {
+    Root,
+    Fused,
+    Two,
+    Norm,
+    Line,
+    Recover,
 }
 
-// The lines that begin with a word.
-fn replay(rt: &impl Print, text: &[u8], word: &[u8]) -> io::Result<()> {
+const KINDS: [Kind; 6] = [
+    Kind::Root,
+    Kind::Fused,
+    Kind::Two,
+    Kind::Norm,
+    Kind::Line,
+    Kind::Recover,
+];
+
+impl Kind {
+    // What a line of this kind begins with.
+    fn word(self) -> &'static [u8] {
+        match self {
+            Kind::Root => b"root ",
+            Kind::Fused => b"fused ",
+            Kind::Two => b"two ",
+            Kind::Norm => b"norm ",
+            Kind::Line => b"line ",
+            Kind::Recover => b"recover ",
+        }
+    }
+
+    // Whether a line of this kind, from its second word on, comes out as it says.
+    fn holds(self, words: Words) -> bool {
+        match self {
+            Kind::Root => root(words),
+            Kind::Fused => fused(words),
+            Kind::Two => two(words),
+            Kind::Norm => norm(words),
+            Kind::Line => line(words),
+            Kind::Recover => recovery(words),
+        }
+    }
+}
+
+// The lines of a kind.
+fn replay(rt: &impl Print, text: &[u8], kind: Kind) -> io::Result<()> {
     let mut right = 0u64;
     let mut lines = 0u64;
-    let mut at = 0;
-    while at < text.len() {
-        if vectors::starts(text, at, word) {
+    for line in Lines(text) {
+        if line.begin_with(kind.word()) {
             lines += 1;
-            if holds(text, at) {
+            if kind.holds(line.skip(1)) {
                 right += 1;
             }
         }
-        at = vectors::past(text, at, b'\n');
     }
-    rt.write_all(word)?;
+    rt.write_all(kind.word())?;
     vectors::report(rt, right, lines)
-}
-
-// Reads until the text is full or the input ends, and answers how many bytes it put at the text's start. A read that a signal
-// interrupts is made again.
-fn read_full(input: &mut impl Read, text: &mut [u8]) -> io::Result<usize>
-    ensures { IfOk result (λ n. n ≤ length text.new) }
-{
-    let mut done = 0;
-    for _ in 0..u64::MAX {
-        match input.read(&mut text[done..]) {
-            Ok(0) => break,
-            Ok(n) => done += n,
-            Err(error) => {
-                if error.kind() != ErrorKind::Interrupted {
-                    return Err(error);
-                }
-            }
-        }
-    }
-    Ok(done)
 }
 
 fn main(rt: HostRuntime) -> io::Result<()> {
     let mut text = [0u8; 262144];
-    let n = read_full(&mut rt.stdin(), &mut text)?;
-    let held = &text[..n];
-    replay(&rt, held, b"root ")?;
-    replay(&rt, held, b"fused ")?;
-    replay(&rt, held, b"two ")?;
-    replay(&rt, held, b"norm ")?;
-    replay(&rt, held, b"line ")?;
-    replay(&rt, held, b"recover ")
+    let n = vectors::read_full(&mut rt.stdin(), &mut text)?;
+    for kind in KINDS {
+        replay(&rt, &text[..n], kind)?;
+    }
+    Ok(())
 }

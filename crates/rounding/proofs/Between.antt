@@ -9,9 +9,10 @@ use lib.Ieee.Order.{round_mono}
 use lib.Ieee.Positive.{positive, between}
 use lib.Ieee.Scale.{round_same}
 use borrow.Author.Tests.{eqb-false}
+use Rattle.std.proofs.lemmas.Bool.{cases_lt}
 use Rattle.rounding.specs.Near.{Sticky}
 use Rattle.rounding.specs.Root.{doubled}
-use Rattle.rounding.proofs.Sticky.{le_or_lt, round_sticky}
+use Rattle.rounding.proofs.Sticky.{round_sticky}
 use Rattle.rounding.proofs.Roots.{IsRoot, sq_lt_back}
 
 sq_le_back : (a b : ℕ) → a * a ≤ b * b → a ≤ b
@@ -61,9 +62,9 @@ module _ (n Q a A c : ℕ) (C : 0 < c) (is : IsRoot n Q) (big : 2 ^ 53 ≤ Q) (t
       rw e (l, l)
 
   up_to : A * A ≤ n * (c * c) → T (le (round binary64 false a c) (rounded n Q))
-  up_to h = elim (le_or_lt A (Q * c)) [
-    | inl g ↦ round_mono binary64 a c (doubled n Q) (2 ^ 1075) C (pow_pos 1075) (rw twice (omega (arith, mul-le-mul_right c (doubled-near n Q).0)))
-    | inr g ↦ (itself (round binary64 false a c) (inside (ns g) g hi)).0
+  up_to h = elim (cases_lt (Q * c) A) [
+    | inl g ↦ (itself (round binary64 false a c) (inside (ns g) g hi)).0
+    | inr g ↦ round_mono binary64 a c (doubled n Q) (2 ^ 1075) C (pow_pos 1075) (rw twice (omega (arith, mul-le-mul_right c (doubled-near n Q).0)))
   ]
     where
       hi : A < (Q + 1) * c
@@ -83,9 +84,9 @@ module _ (n Q a A c : ℕ) (C : 0 < c) (is : IsRoot n Q) (big : 2 ^ 53 ≤ Q) (t
       go false e =
           let ns = eqb-false (Q * Q) n e in
           let strict : Q * c < A = sq_lt_back (Q * c) A (omega (arith, mul-lt-mul_of_pos_right (lt_of_le-ne is.0 ns) (mul-pos C C))) in
-          elim (le_or_lt ((Q + 1) * c) A) [
-            | inl g ↦ above (omega (arith, mul-le-mul_right c (doubled-near n Q).1))
-            | inr g ↦ (itself (round binary64 false a c) (inside ns strict g)).1
+          elim (cases_lt A ((Q + 1) * c)) [
+            | inl g ↦ (itself (round binary64 false a c) (inside ns strict g)).1
+            | inr g ↦ above (omega (arith, mul-le-mul_right c (doubled-near n Q).1))
           ]
 
 two_A : (a : ℕ) → a * 2 ^ 1075 ≡ 2 * (a * 2 ^ 1074)

@@ -1,6 +1,7 @@
--- The digits of a square root, one a turn. The invariant, with k turns to go and G = 2 ^ k: s is twice the digits found so far, t is s + G,
--- and ix is what w * 2 ^ 56 is more than s * s, in units of 4 * G.
-use Rattle.std.proofs.Common.{◌≡◌, ℕ, suc, ◌+◌, ◌-◌, ◌*◌, ◌/◌, ◌%◌, ◌^◌, ◌<◌, ◌≤◌, ◌⊎◌, ap, ◌∙◌, inl, inr, arith}
+-- The digits of a square root, one a turn. The invariant, with k turns to go and G = 2 ^ k: s is twice the digits found so far, the trial t is
+-- s + G, and the rest ix is what w * 2 ^ 56 is more than s * s, in units of 4 * G. The trial goes up by g and down by h.
+use Rattle.std.proofs.Common.{◌≡◌, ℕ, suc, ◌+◌, ◌-◌, ◌*◌, ◌/◌, ◌^◌, ◌<◌, ◌≤◌, ap, ◌∙◌, inl, inr, arith}
+use Rattle.rounding.specs.Near.{Turned, Ended}
 use Rattle.rounding.proofs.Roots.{IsRoot, even_square}
 
 pub record Holds (w ix t h g i k G s : ℕ) : Type 0 where
@@ -19,8 +20,8 @@ pub record Inv (w ix t h g i : ℕ) : Type 0 where
   pub s : ℕ
   pub holds : Holds w ix t h g i k G s
 
-pub first : (w : ℕ) → w < 2 ^ 54 → Inv w (w * 2 % 2 ^ 64) (2 ^ 53) (2 ^ 52) 0x30_0000_0000_0000 0
-first w h = record { k = 53; G = 2 ^ 53; s = 0; holds = omega arith }
+pub first : {w ix t h g : ℕ} → w < 2 ^ 54 → (ix ≡ w * 2) × (t ≡ 2 ^ 53) → (g ≡ 3 * 2 ^ 52) × (h ≡ 2 ^ 52) → Inv w ix t h g 0
+first small e f = record { k = 53; G = 2 ^ 53; s = 0; holds = omega arith }
 
 module _ {w ix t h g i : ℕ} (v : Inv w ix t h g i) where
   -- ---- a turn: G is 2 * h
@@ -42,13 +43,9 @@ module _ {w ix t h g i : ℕ} (v : Inv w ix t h g i) where
     digit_zero : (t' x : ℕ) → ix < t → t' ≡ t - h → x ≡ ix * 2 → Inv w x t' (h / 2) (g / 2) (i + 1)
     digit_zero t' x below a b = record { k = v.k - 1; G = h; s = v.s; holds = omega (arith, halves, left, ap (λ (y : ℕ). h * y) b) }
 
-    -- the two tests agree, and nothing is shifted out
-    pub again : (t' y d : ℕ) → d < 2 ^ 64 → (d + t) % 2 ^ 64 ≡ ix → ((t ≤ ix) × (t' ≡ t + g)) ⊎ ((ix < t) × (t' ≡ t - h))
-        → ((d < 2 ^ 63) × (y ≡ d)) ⊎ ((2 ^ 63 ≤ d) × (y ≡ ix)) → Inv w (y * 2 % 2 ^ 64) t' (h / 2) (g / 2) (i + 1)
-    again t' y d D e (inl a) (inl b) = digit_one d t' (y * 2 % 2 ^ 64) (omega arith) a.1 (omega arith)
-    again t' y d D e (inl a) (inr b) = absurd (omega arith)
-    again t' y d D e (inr a) (inl b) = absurd (omega arith)
-    again t' y d D e (inr a) (inr b) = digit_zero t' (y * 2 % 2 ^ 64) a.0 a.1 (omega arith)
+    pub again : {x t' h' g' : ℕ} → Turned ix t g h x t' → (g' ≡ g / 2) × (h' ≡ h / 2) → Inv w x t' h' g' (i + 1)
+    again {x} {t'} (inl a) e = rw (e.0, e.1) (digit_one (ix - t) t' x (omega arith) a.1 a.2)
+    again {x} {t'} (inr a) e = rw (e.0, e.1) (digit_zero t' x a.0 a.1 a.2)
 
   -- ---- at the end G is 1, and s is even, since s * s is
   module _ (l : 53 ≤ i) where
@@ -64,6 +61,6 @@ module _ {w ix t h g i : ℕ} (v : Inv w ix t h g i) where
     sum : found * found + ix ≡ w * 2 ^ 54
     sum = omega (arith, ap (λ (x : ℕ). x * ix) one, ap (λ (x : ℕ). x * x) even)
 
-    pub out : (q : ℕ) → ((t ≤ ix) × (q ≡ (t + 1) / 2)) ⊎ ((ix < t) × (q ≡ (t - 1) / 2)) → IsRoot (w * 2 ^ 54) q
-    out q (inl z) = let e : q ≡ found + 1 = omega (arith, one, even) in rw e (omega (arith, one, even, sum))
-    out q (inr z) = let e : q ≡ found = omega (arith, one, even) in rw e (omega (arith, one, even, sum))
+    pub out : {q : ℕ} → Ended ix t q → IsRoot (w * 2 ^ 54) q
+    out {q} (inl z) = let e : q ≡ found + 1 = omega (arith, one, even) in rw e (omega (arith, one, even, sum))
+    out {q} (inr z) = let e : q ≡ found = omega (arith, one, even) in rw e (omega (arith, one, even, sum))

@@ -1,6 +1,6 @@
 -- Numbers times powers of two: equal where the exponents add up alike, and within bounds by the sum of the exponents.
-use Rattle.std.proofs.Common.{◌≡◌, ℕ, ◌+◌, ◌*◌, ◌^◌, ◌<◌, ◌≤◌, sym, refl, ◌∙◌, le_trans, le_of_eq, lt_of_lt_of_le, mul-le-mul_right, mul_assoc, lt_of_not-le}
-use Rattle.std.proofs.Common.{not-le_of_lt, pow_mono, pow-add, shl_lt}
+use Rattle.std.proofs.Common.{◌≡◌, ℕ, ◌+◌, ◌-◌, ◌*◌, ◌^◌, ◌<◌, ◌≤◌, sym, refl, ap, ◌∙◌, arith, le_trans, le_of_eq, lt_of_lt_of_le}
+use Rattle.std.proofs.Common.{mul-le-mul_right, mul_assoc, lt_of_not-le, not-le_of_lt, pow_mono, pow-add, shl_lt}
 
 pub one_shift : (x i j k : ℕ) → i + j ≡ k → x * 2 ^ i * 2 ^ j ≡ x * 2 ^ k
 one_shift x i j k e = rw (← e, pow-add 2 i j, mul_assoc x (2 ^ i) (2 ^ j))
@@ -13,6 +13,9 @@ three_shifts x i j k l e = rw (one_shift x i j (i + j) refl) (one_shift x (i + j
 
 pub two_powers : (i j k l : ℕ) → i + j ≡ k + l → 2 ^ i * 2 ^ j ≡ 2 ^ k * 2 ^ l
 two_powers i j k l e = rw (← (pow-add 2 i j), ← (pow-add 2 k l), e)
+
+pub pow_back : {i j : ℕ} → j ≤ i → 2 ^ (i - j) * 2 ^ j ≡ 2 ^ i
+pow_back {i} {j} h = sym (pow-add 2 (i - j) j) ∙ ap (λ (x : ℕ). 2 ^ x) (omega arith)
 
 pub shift_under : {x : ℕ} (i j k : ℕ) → x < 2 ^ i → i + j ≤ k → x * 2 ^ j < 2 ^ k
 shift_under i j k h l = lt_of_lt_of_le (shl_lt i j h) (pow_mono l)

@@ -9,7 +9,7 @@ use lib.Ieee.Fits.{down_pos}
 use lib.Ieee.Exact.{HasValue}
 use Rattle.rounding.specs.Near.{signed, Taken, Multiplied, Fuses}
 use Rattle.rounding.specs.Fused.{product, fused}
-use Rattle.rounding.proofs.Shifts.{pow_same}
+use Rattle.rounding.proofs.Powers.{two_powers}
 use Rattle.rounding.proofs.Sums.{sum_same}
 
 -- ---- 2 ^ (e + d)
@@ -18,14 +18,14 @@ across a b = go (ltb a (suc b)) (ltb→lt a (suc b)) (nltb→le a (suc b))
   where
     go : (t : Bool) → (T t → a < suc b) → (T (not t) → suc b ≤ a)
         → up (cond t (negsuc (suc b - suc a)) (pos (a - suc b))) * 2 ^ suc b ≡ 2 ^ a * down (cond t (negsuc (suc b - suc a)) (pos (a - suc b)))
-    go true h k = pow_same 0 (suc b) a (suc (suc b - suc a)) (omega (arith, h tt))
-    go false h k = pow_same (a - suc b) (suc b) a 0 (omega (arith, k tt))
+    go true h k = two_powers 0 (suc b) a (suc (suc b - suc a)) (omega (arith, h tt))
+    go false h k = two_powers (a - suc b) (suc b) a 0 (omega (arith, k tt))
 
 scale : (e d : ℤ) → up (e +ℤ d) * (down e * down d) ≡ up e * up d * down (e +ℤ d)
 scale (pos a) (pos b) = omega (arith, pow-add 2 a b)
 scale (pos a) (negsuc b) = omega (arith, across a b)
 scale (negsuc a) (pos b) = omega (arith, across b a)
-scale (negsuc a) (negsuc b) = omega (arith, pow_same (suc a) (suc b) 0 (suc (suc (a + b))) (omega arith))
+scale (negsuc a) (negsuc b) = omega (arith, two_powers (suc a) (suc b) 0 (suc (suc (a + b))) (omega arith))
 
 -- ---- the values of a product, of a sum, and of both
 pub product_value : (x y : Float) (s t : Bool) (a c b d : ℕ) → HasValue x s a c → HasValue y t b d → HasValue (product x y) (unlike s t) (a * b) (c * d)

@@ -3,7 +3,7 @@ use Rattle.std.proofs.Common.{◌≡◌, ℕ, zero, suc, ◌+◌, ◌*◌, ◌%�
 use Rattle.std.proofs.Common.{mod-eq_of_lt, le_antisymm, pos_of_ne-zero, zero-mul, arith, lit<, eqb→eq, ltb-false, ne_eqb}
 use mathlib.Core.Bool.{false≢true}
 use native.Mathlib.Nat.{eq_of_mul-eq-mul_right}
-use lib.Ieee.{Float, nan, inf, fin, binary64, up, down, fits, is_nan, eq, lt, ne, of_bits, to_bits}
+use lib.Ieee.{Float, nan, inf, fin, binary64, up, down, fits, is_nan, eq, lt, of_bits, to_bits}
 use lib.Ieee.Fits.{up_pos, and_l}
 use lib.Ieee.Bits.{of_bits-to_bits, to_bits-lt, nan_bits_is, nan_bits_above, is_false}
 use Rattle.rounding.specs.Root.{root}
@@ -12,13 +12,6 @@ use Rattle.rounding.proofs.Packed.{inf_bits}
 
 pub yes : {b : Bool} → b ≡ true → T b
 yes h = rw h tt
-
--- ---- NaN
-pub real : (x : Float) → ne x x ≡ false → T (not (is_nan x))
-unfolding is_nan
-real nan h = absurd (unfold ne in true≢false h)
-real (inf s) h = tt
-real (fin s m e) h = tt
 
 -- ---- zero
 no_factor : (m u : ℕ) → 0 < u → m * u ≡ 0 → m ≡ 0
@@ -95,3 +88,6 @@ module _ (x : Float) (good : fits binary64 x ≡ true) (h : lt (of_bits binary64
   at_infinity k =
       let is : x ≡ inf false = sym (from_bits x good) ∙ rw (le_antisymm bits_at_most k) (inf_bits false) in
       rw is (sym root_infinity)
+
+-- what the check finds by itself for `root` and `root_pair`
+pub ruleset by_tests = (at_zero, no_root, bits_positive, at_infinity, root_of_bits)

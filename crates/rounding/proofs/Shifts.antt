@@ -1,17 +1,10 @@
 -- Shifts and masks of words, as the program takes them, and `Sticky`.
-use Rattle.std.proofs.Common.{◌≡◌, ℕ, ◌+◌, ◌-◌, ◌*◌, ◌/◌, ◌%◌, ◌^◌, ◌<◌, ◌≤◌, sym, refl, ap, ◌∙◌, inr, lt_of_lt_of_le, lt_of_le_of_lt, mul-le-mul_right}
-use Rattle.std.proofs.Common.{mod-eq_of_lt, div-mul-le_self, arith, pow_pos, pow_mono, pow-add}
+use Rattle.std.proofs.Common.{◌≡◌, ℕ, ◌+◌, ◌-◌, ◌*◌, ◌/◌, ◌%◌, ◌^◌, ◌<◌, ◌≤◌, refl, ◌∙◌, inr, lt_of_lt_of_le, lt_of_le_of_lt, mul-le-mul_right}
+use Rattle.std.proofs.Common.{mod-eq_of_lt, div-mul-le_self, arith, pow_pos, pow_mono}
 use native.Mathlib.Nat.{lt-div-mul-add}
 use lib.Arith.{lt_of_le-ne}
 use lib.Bits.{bit_or, or_step, or_zero_r}
 use Rattle.rounding.specs.Near.{Sticky}
-
--- ---- powers of two by their exponents
-pub pow_same : (i j k l : ℕ) → i + j ≡ k + l → 2 ^ i * 2 ^ j ≡ 2 ^ k * 2 ^ l
-pow_same i j k l e = sym (pow-add 2 i j) ∙ ap (λ (x : ℕ). 2 ^ x) e ∙ pow-add 2 k l
-
-pub pow_back : {i j : ℕ} → j ≤ i → 2 ^ (i - j) * 2 ^ j ≡ 2 ^ i
-pow_back {i} {j} h = sym (pow-add 2 (i - j) j) ∙ ap (λ (x : ℕ). 2 ^ x) (omega arith)
 
 -- ---- the lowest bit set
 pub or_one : (q : ℕ) → bit_or q 1 ≡ q + (1 - q % 2)

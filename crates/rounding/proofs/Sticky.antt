@@ -15,6 +15,7 @@ use lib.Ieee.Nearest.{closest, closest_same}
 use lib.Ieee.Order.{drop}
 use lib.Ieee.Scale.{round_same}
 use Rattle.rounding.specs.Near.{Sticky}
+use Rattle.rounding.proofs.Powers.{exponent_under}
 
 -- ---- a fraction multiplied through has the same stand-in
 pub sticky_times : (a b c J : ℕ) → 0 < c → Sticky a b J → Sticky (a * c) (b * c) J
@@ -43,14 +44,6 @@ cmp a b = go (compare a b) (leb→le a b) (nleb→lt a b) (eqb→eq a b) (λ (e 
     go Ordering.lt h k e n = lt_of_le-ne (h tt) n
     go Ordering.eq h k e n = e tt
     go Ordering.gt h k e n = k tt
-
-pub le_or_lt : (a b : ℕ) → (a ≤ b) ⊎ (b < a)
-le_or_lt a b = go (compare a b) (cmp a b)
-  where
-    go : (o : Ordering) → Cmp o a b → (a ≤ b) ⊎ (b < a)
-    go Ordering.lt h = inl (omega arith)
-    go Ordering.eq h = inl (omega arith)
-    go Ordering.gt h = inr h
 
 pub compare_lt : (a b : ℕ) → a < b → compare a b ≡ Ordering.lt
 compare_lt a b h = go (compare a b) (cmp a b)
@@ -155,9 +148,6 @@ window_of p n c P C = (
   ],
 )
 
-pow_lt_back : (i p : ℕ) → 2 ^ i < 2 ^ p → i < p
-pow_lt_back i p h = lt_of_not-le (λ (g : p ≤ i). not-le_of_lt h (pow_mono g))
-
 -- ---- n is less than b away from J b, for an odd J, and 4 D times b is the unit of what is kept: J b and n have the same window
 module _ (p k n b J c D : ℕ) (B : 0 < b) (o : J % 2 ≡ 1) (hi : n < (J + 1) * b) (lo : J * b < n + b) (four : c * 2 ^ k ≡ b * (4 * D)) where
   cut : (i : ℕ) → 2 ^ (i + k) * c ≡ 2 ^ i * (4 * D) * b
@@ -209,7 +199,7 @@ module _ (f : Format) (s : Bool) (a c J e L : ℕ) (C : 0 < c) (big : 2 ^ (prec 
   gap : (m : ℕ) × (e + l + 2 + m ≡ L + k)
   gap =
       let h : p + 1 + (e + l) < p + k + L =
-      pow_lt_back (p + 1 + (e + l)) (p + k + L) (lt_of_mul-lt-mul_right c
+      exponent_under (p + 1 + (e + l)) (p + k + L) (lt_of_mul-lt-mul_right c
       (rw (pow-add 2 (p + 1) (e + l), pow-add 2 e l, pow-add 2 (p + k) L) (omega (arith, mul-le-mul_right b big, w.0)))) in
       le_dest {n = e + l + 2} (omega arith)
 

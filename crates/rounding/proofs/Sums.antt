@@ -1,24 +1,18 @@
 -- The sum of two numbers with signs, one of which may be a sticky number that stands for it.
 use Rattle.std.proofs.Common.{◌≡◌, ℕ, suc, ◌+◌, ◌-◌, ◌*◌, ◌/◌, ◌%◌, ◌^◌, ◌<◌, ◌≤◌, Bool, true, false, cond, ◌&&◌, ltb, ◌⊎◌, sym, refl, ap, ◌∙◌, ap₂, inl, inr}
-use Rattle.std.proofs.Common.{le_trans, lt_of_lt_of_le, le_of_lt, mul-le-mul_right, mul_assoc, mul_comm, add-mul, add_comm, le_antisymm}
+use Rattle.std.proofs.Common.{le_trans, lt_of_lt_of_le, le_of_lt, mul-le-mul_right, mul_assoc, mul_comm, add-mul, add_comm}
 use Rattle.std.proofs.Common.{lt_of_mul-lt-mul_right, mul-le-mul_left, mul-lt-mul_of_pos_right, div-add-mod', le-mul_of_pos_right, arith, lit≤, pow_pos}
 use Rattle.std.proofs.Common.{pow_mono, ltb-false, ltb-true, le-ltb, lt-ltb}
 use mathlib.Core.Bool.{beq}
+use Rattle.std.proofs.Math.Bool.{and-true, and-false}
+use Rattle.std.proofs.lemmas.Bool.{cases_lt}
 use native.Mathlib.Nat.{mul-sub}
 use lib.Ieee.{Format, binary64, round, sum, of_bits}
 use lib.Ieee.Positive.{first_pos}
 use lib.Ieee.Scale.{round_same}
 use Rattle.rounding.specs.Near.{Sticky, Multiplied, Raised}
-use Rattle.rounding.proofs.Shifts.{pow_back}
-use Rattle.rounding.proofs.Sticky.{le_or_lt, round_sticky, sticky_times, sticky_below}
-
-and_true : (x : Bool) → (x && true) ≡ x
-and_true true = refl
-and_true false = refl
-
-and_false : (x : Bool) → (x && false) ≡ false
-and_false true = refl
-and_false false = refl
+use Rattle.rounding.proofs.Powers.{pow_back}
+use Rattle.rounding.proofs.Sticky.{round_sticky, sticky_times, sticky_below}
 
 -- ---- `sum`, by its cases
 module _ (f : Format) (s t : Bool) (a b c : ℕ) where
@@ -33,10 +27,10 @@ module _ (f : Format) (s t : Bool) (a b c : ℕ) where
   less h k = rw (sum_is, h, lt-ltb a b k)
 
   pub more : beq s t ≡ false → b < a → sum f s a t b c ≡ round f s (a - b) c
-  more h k = rw (sum_is, h, le-ltb a b (le_of_lt k), lt-ltb b a k, and_true s)
+  more h k = rw (sum_is, h, le-ltb a b (le_of_lt k), lt-ltb b a k, and-true s)
 
   pub level : beq s t ≡ false → a ≡ b → sum f s a t b c ≡ round f false 0 c
-  level h k = rw (sum_is, h, le-ltb a b (omega arith), le-ltb b a (omega arith), and_false s) (ap (λ (x : ℕ). round f false x c) (omega arith))
+  level h k = rw (sum_is, h, le-ltb a b (omega arith), le-ltb b a (omega arith), and-false s) (ap (λ (x : ℕ). round f false x c) (omega arith))
 
 -- ---- two sums that agree in all that `sum` looks at
 pub record Alike (f : Format) (a b c a' b' c' : ℕ) : Type 0 where
@@ -101,8 +95,8 @@ module _ (s t : Bool) (P Q S e : ℕ) where
   pub aligned_more : beq s t ≡ false → Q < P → S + Q ≡ P → round binary64 s (S * 2 ^ e) (2 ^ 2272) ≡ sum binary64 s (P * 2 ^ e) t (Q * 2 ^ e) (2 ^ 2272)
   aligned_more h l k = sym (more binary64 s t (P * 2 ^ e) (Q * 2 ^ e) (2 ^ 2272) h (mul-lt-mul_of_pos_right l (pow_pos e)) ∙ rw (off Q P k))
 
-pub aligned_same : (s t : Bool) (P Q e : ℕ) → beq s t ≡ false → Q ≤ P → P ≤ Q → of_bits binary64 0 ≡ sum binary64 s (P * 2 ^ e) t (Q * 2 ^ e) (2 ^ 2272)
-aligned_same s t P Q e h k l = sym (level binary64 s t (P * 2 ^ e) (Q * 2 ^ e) (2 ^ 2272) h (rw (le_antisymm l k)) ∙ zero-sum)
+pub aligned_same : (s t : Bool) (P Q e : ℕ) → beq s t ≡ false → P ≡ Q → of_bits binary64 0 ≡ sum binary64 s (P * 2 ^ e) t (Q * 2 ^ e) (2 ^ 2272)
+aligned_same s t P Q e h k = sym (level binary64 s t (P * 2 ^ e) (Q * 2 ^ e) (2 ^ 2272) h (rw k) ∙ zero-sum)
 
 -- ---- X stands beside P 2 ^ e, and the odd Q for X / 2 ^ e
 module _ (P Q X e L : ℕ) (even : P % 2 ≡ 0) (gap : Q + 2 ^ 54 ≤ P)
@@ -143,11 +137,11 @@ exact_only X k b J h (inr s) =
     h ∙ ap (λ (x : ℕ). x * b) (omega arith)
 
 far_or_exact : (X d J z K : ℕ) → X % 2 ^ z ≡ 0 → X < 2 * K * 2 ^ suc z → Sticky X (2 ^ d) J → (X ≡ J * 2 ^ d) ⊎ (J < 2 * K)
-far_or_exact X d J z K ends most st = elim (le_or_lt d z) [
-  | inl g ↦
+far_or_exact X d J z K ends most st = elim (cases_lt z d) [
+  | inl g ↦ inr (sticky_below X (2 ^ d) J K (lt_of_lt_of_le most (mul-le-mul_left (2 * K) (pow_mono g))) st)
+  | inr g ↦
       let is : X ≡ X / 2 ^ z * 2 ^ (z - d) * 2 ^ d = omega (arith, div-add-mod' X (2 ^ z), ap (λ (x : ℕ). X / 2 ^ z * x) (pow_back g)) in
       inl (exact_only X (X / 2 ^ z * 2 ^ (z - d)) (2 ^ d) J is st)
-  | inr g ↦ inr (sticky_below X (2 ^ d) J K (lt_of_lt_of_le most (mul-le-mul_left (2 * K) (pow_mono g))) st)
 ]
 
 -- a stand-in is no longer than its number, and not 0

@@ -9,15 +9,17 @@ use lib.Count.{count_leading_zeros, leading_top}
 use lib.Ieee.{binary64, round}
 use lib.Ieee.Positive.{first_pos}
 use borrow.Author.Tests.{eqb-false}
+use Rattle.std.proofs.lemmas.Nat.{or_lt}
 use Rattle.rounding.specs.Near.{Sticky}
 use Rattle.rounding.proofs.Sticky.{round_sticky, sticky_times, sticky_least, sticky_below}
-use Rattle.rounding.proofs.Shifts.{pow_same, pow_back, or_one, sticky_up}
+use Rattle.rounding.proofs.Powers.{two_powers, pow_back}
+use Rattle.rounding.proofs.Shifts.{or_one, sticky_up}
 
 -- a word shifted up by 64 - d keeps its d lowest digits
 wrapped : (x d : ℕ) → d ≤ 64 → x * 2 ^ (64 - d) % 2 ^ 64 ≡ x % 2 ^ d * 2 ^ (64 - d)
 wrapped x d h =
     let s = 2 ^ (64 - d) in
-    let whole : 2 ^ d * s ≡ 2 ^ 64 = pow_same d (64 - d) 64 0 (omega arith) in
+    let whole : 2 ^ d * s ≡ 2 ^ 64 = two_powers d (64 - d) 64 0 (omega arith) in
     rw (← whole, mod-mul (x * s) (pow_pos d) (pow_pos (64 - d)), mul-div_cancel x (pow_pos (64 - d)), mul-mod_left x s) (add-zero (x % 2 ^ d * s))
 
 -- ---- the product, by halves of 32 bits
@@ -59,6 +61,10 @@ module _ (u1 u0 v1 v0 : ℕ) where
       let word : bit_or (w * 2 ^ 32 % 2 ^ 64) (low (u0 * v0)) ≡ w % 2 ^ 32 * 2 ^ 32 + u0 * v0 % 2 ^ 32 =
       rw (wrapped w 32 (lit≤ tt), and_mask (u0 * v0) 32) (or_shifted (w % 2 ^ 32) 32 (u0 * v0 % 2 ^ 32) (mod-lt (u0 * v0) (lit< tt))) in
       omega (arith, and_mask t 32)
+
+-- the lower word that the program joins is a word
+pub joined_fits : (x y : ℕ) → bit_or (x % 2 ^ 64) (low y) < 2 ^ 64
+joined_fits x y = or_lt 64 (x % 2 ^ 64) (low y) (mod-lt x (lit< tt)) (rw (and_mask y 32) (omega arith))
 
 abbrev pub Fits : ℕ → ℕ → Type 0
 Fits u v = Columns (u / 2 ^ 32) (low u) (v / 2 ^ 32) (low v)
@@ -130,39 +136,37 @@ leading a h k =
     let z = count_leading_zeros 64 a in
     let t = leading_top 64 a h k in
     let under : 64 - z ≡ suc t.0 = omega (arith, t.1) in
-    (omega (arith, t.1), omega (arith, mul-le-mul_right (2 ^ z) t.2, pow_same t.0 z 63 0 (omega (arith, t.1))), rw under t.3)
+    (omega (arith, t.1), omega (arith, mul-le-mul_right (2 ^ z) t.2, two_powers t.0 z 63 0 (omega (arith, t.1))), rw under t.3)
 
 -- S, with its top bit set, stands for W * 2 ^ i / 2 ^ j
 rounds : (s : Bool) (W S i j x e e' : ℕ) → 2 ^ 63 ≤ S → Sticky (W * 2 ^ i) (2 ^ j) S → i + x ≡ e + 2336 → j + x ≡ 2272 + e'
     → round binary64 s (S * 2 ^ e') (2 ^ 2336) ≡ round binary64 s (W * 2 ^ e) (2 ^ 2272)
 rounds s W S i j x e e' big st p q =
     sym (round_sticky binary64 s (W * 2 ^ e) (2 ^ 2272) S e' 2336 (pow_pos 2272) (le_trans (lit≤ tt) big)
-    (rw (mul_assoc W (2 ^ e) (2 ^ 2336), ← pow_same i x e 2336 p, ← mul_assoc W (2 ^ i) (2 ^ x), ← pow_same j x 2272 e' q)
+    (rw (mul_assoc W (2 ^ e) (2 ^ 2336), ← two_powers i x e 2336 p, ← mul_assoc W (2 ^ i) (2 ^ x), ← two_powers j x 2272 e' q)
     (sticky_times (W * 2 ^ i) (2 ^ j) (2 ^ x) S (pow_pos x) st)))
 
--- as `finish` has it: the top bit of what is rounded is set, and it rounds as hi * 2 ^ 64 + lo does
-module _ (hi lo : ℕ) (U : lo < 2 ^ 64) where
+-- as `finish` has it: the top bit of what is rounded is set, and it rounds as W, which is hi * 2 ^ 64 + lo, does
+module _ (hi lo : ℕ) {W : ℕ} (is : hi * 2 ^ 64 + lo ≡ W) (U : lo < 2 ^ 64) where
   abbrev zl : ℕ
   zl = count_leading_zeros 64 lo
 
   abbrev zh : ℕ
   zh = count_leading_zeros 64 hi
 
-  pub low_rounds : hi ≡ 0 → 0 < hi * 2 ^ 64 + lo → (zl < 64) × (2 ^ 63 ≤ lo * 2 ^ zl % 2 ^ 64)
-      × ((s : Bool) (e : ℕ) → round binary64 s (lo * 2 ^ zl % 2 ^ 64 * 2 ^ (e + 64 - zl)) (2 ^ 2336) ≡ round binary64 s ((hi * 2 ^ 64 + lo) * 2 ^ e) (2 ^ 2272))
+  pub low_rounds : hi ≡ 0 → 0 < W → (zl < 64) × (2 ^ 63 ≤ lo * 2 ^ zl % 2 ^ 64)
+      × ((s : Bool) (e : ℕ) → round binary64 s (lo * 2 ^ zl % 2 ^ 64 * 2 ^ (e + 64 - zl)) (2 ^ 2336) ≡ round binary64 s (W * 2 ^ e) (2 ^ 2272))
   low_rounds none some =
       let l = leading lo (omega arith) U in
       let fits : lo * 2 ^ zl % 2 ^ 64 ≡ lo * 2 ^ zl =
       mod-eq_of_lt (omega (arith, mul-lt-mul_of_pos_right l.2 (pow_pos zl), pow_back (le_of_lt l.0))) in
-      let is : hi * 2 ^ 64 + lo ≡ lo = omega arith in
+      let same : W ≡ lo = omega arith in
       let st : Sticky (lo * 2 ^ zl) (2 ^ 0) (lo * 2 ^ zl) = inl (sym (mul-one (lo * 2 ^ zl))) in
-      rw (fits, is) (l.0, l.1, λ s e. rounds s lo (lo * 2 ^ zl) zl 0 (e + 2336 - zl) e (e + 64 - zl) l.1 st (omega arith) (omega arith))
+      rw (fits, same) (l.0, l.1, λ s e. rounds s lo (lo * 2 ^ zl) zl 0 (e + 2336 - zl) e (e + 64 - zl) l.1 st (omega arith) (omega arith))
 
-  pub high_rounds : (hi ≡ 0 → ⊥) → hi < 2 ^ 64 → (sh sl : ℕ) → Sticky (hi * 2 ^ 64 + lo) (2 ^ (64 - zh)) (sh * 2 ^ 64 + sl) → (2 ^ 63 ≤ sl)
-      × ((s : Bool) (e : ℕ) → round binary64 s (sl * 2 ^ (e + 128 - zh)) (2 ^ 2336) ≡ round binary64 s ((hi * 2 ^ 64 + lo) * 2 ^ e) (2 ^ 2272))
-  high_rounds some Uh sh sl st =
-      let W = hi * 2 ^ 64 + lo in
-      let S = sh * 2 ^ 64 + sl in
+  pub high_rounds : (hi ≡ 0 → ⊥) → hi < 2 ^ 64 → (sh sl : ℕ) {S : ℕ} → sh * 2 ^ 64 + sl ≡ S → Sticky W (2 ^ (64 - zh)) S → (2 ^ 63 ≤ sl)
+      × ((s : Bool) (e : ℕ) → round binary64 s (sl * 2 ^ (e + 128 - zh)) (2 ^ 2336) ≡ round binary64 s (W * 2 ^ e) (2 ^ 2272))
+  high_rounds some Uh sh sl {S} s-is st =
       let l = leading hi (omega arith) Uh in
       let least : 2 ^ 63 ≤ S =
       sticky_least W (2 ^ (64 - zh)) S (2 ^ 63) (pow_pos (64 - zh))

@@ -1,5 +1,5 @@
 -- What the contracts of the inner functions say of numbers that stand for a fraction or a float. No public entry cites it. Assumes nothing.
-use Rattle.std.specs.Prelude.{◌≡◌, ℕ, ◌+◌, ◌*◌, ◌/◌, ◌%◌, ◌^◌, ◌<◌, ◌≤◌, Bool, cond, ◌⊎◌, from_bits, Float}
+use Rattle.std.specs.Prelude.{◌≡◌, ℕ, ◌+◌, ◌-◌, ◌*◌, ◌/◌, ◌%◌, ◌^◌, ◌<◌, ◌≤◌, Bool, cond, ◌⊎◌, from_bits, Float}
 use Rattle.std.specs.Float.{binary64}
 use Rattle.std.specs.Float.Ieee.{units, unlike}
 use Rattle.std.specs.Float.Ieee.Exact.{HasValue}
@@ -33,6 +33,14 @@ pub record Radical (b w half : ℕ) : Type 0 where
   pub near : half + 485 ≤ 2045
   pub reads : (q : ℕ) → (q * q ≤ w * 2 ^ 54) × (w * 2 ^ 54 < (q + 1) * (q + 1))
       → from_bits binary64 ((half + 485) * 2 ^ 52 + (q + 1) / 2) ≡ root (from_bits binary64 b)
+
+-- a turn of a root's digits: the digit is 1 where the trial t is at most the rest x, and then the trial goes up by u, and else down by d
+abbrev pub Turned : ℕ → ℕ → ℕ → ℕ → ℕ → ℕ → Type 0
+Turned x t u d x' t' = ((t ≤ x) × (t' ≡ t + u) × (x' ≡ (x - t) * 2)) ⊎ ((x < t) × (t' ≡ t - d) × (x' ≡ x * 2))
+
+-- after the last turn q is the root's whole part, its last digit included
+abbrev pub Ended : ℕ → ℕ → ℕ → Type 0
+Ended x t q = ((t ≤ x) × (q ≡ (t + 1) / 2)) ⊎ ((x < t) × (q ≡ (t - 1) / 2))
 
 -- near 1 the pattern of a root is that half way between b and the pattern of 1, rounded down
 pub record Halved (b : ℕ) : Type 0 where

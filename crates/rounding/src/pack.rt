@@ -76,6 +76,14 @@ pub fn round_pack(neg: bool, e: u64, sig: u64) -> f64
     }
 }
 
+// The bits of a positive finite float.
+#[derive(Clone, Copy)]
+pub struct Positive {
+    pub bits: u64,
+    pub ghost positive: { 0 < bits },
+    pub ghost finite: { bits < 0x7ff0_0000_0000_0000 },
+}
+
 // A positive float is m * 2^e / 2^1136, with 2^62 <= m < 2^63.
 #[derive(Clone, Copy)]
 pub struct Parts {
@@ -83,15 +91,14 @@ pub struct Parts {
     pub e: u64,
 }
 
-// Of a positive finite float's bits.
-pub fn parts_of(b: u64) -> Parts
-    requires { (0 < b) × (b < 0x7ff0_0000_0000_0000) }
-    ensures { Taken b result.m result.e }
+#[tactic(auto, using(crate::proofs::Decode::lead_range))]
+pub fn parts_of(x: Positive) -> Parts
+    ensures { Taken x.bits result.m result.e }
 {
-    let field = b >> 52;
-    let digits = b & 0xf_ffff_ffff_ffff;
+    let field = x.bits >> 52;
+    let digits = x.bits & 0xf_ffff_ffff_ffff;
     if field == 0 {
-        let z = u64::leading_zeros(digits) - 1;
+        let z = digits.leading_zeros() - 1;
         Parts {
             m: digits << z,
             e: 62 - (z as u64),

@@ -1,3 +1,4 @@
+pub mod Mapped
 pub mod Printing
 pub mod Put
 pub mod Reading

@@ -31,7 +31,8 @@ fn no_end() -> io::Error {
     io::Error::new(ErrorKind::TimedOut, "gave up after 2^63 tries")
 }
 
-// As many bytes as are there now, and none at the end of the input.
+// As many bytes as are there now, and none at the end of the input. (This and `write_some` differ in their call. One function over a
+// closure was tried, and its proof did not close: what the closure's failed calls keep of the reader or the writer stayed open.)
 fn read_some<R: Read>(source: &mut R, input: &mut [u8]) -> io::Result<usize>
     ensures bound { IfOk result (λ n. n ≤ length input.new) }
     ensures length { length input.new ≡ length input.old }
@@ -39,12 +40,8 @@ fn read_some<R: Read>(source: &mut R, input: &mut [u8]) -> io::Result<usize>
 {
     for _ in 0..MOST_TRIES {
         match source.read(input) {
-            Ok(got) => return Ok(got),
-            Err(error) => {
-                if !is_passing(error) {
-                    return Err(error);
-                }
-            }
+            Err(error) if is_passing(error) => {}
+            outcome => return outcome,
         }
     }
     Err(no_end())
@@ -57,12 +54,8 @@ fn write_some<W: Write>(sink: &mut W, text: &[u8]) -> io::Result<usize>
 {
     for _ in 0..MOST_TRIES {
         match sink.write(text) {
-            Ok(put) => return Ok(put),
-            Err(error) => {
-                if !is_passing(error) {
-                    return Err(error);
-                }
-            }
+            Err(error) if is_passing(error) => {}
+            outcome => return outcome,
         }
     }
     Err(no_end())
@@ -73,6 +66,7 @@ fn write_whole<W: Write>(sink: &mut W, text: &[u8]) -> io::Result<()>
     ensures { OnOk result (Appends (W.contents sink.old) (W.contents sink.new) text.now) }
 {
     let mut done = 0;
+    // No `for`, here and in `print_portion`: a turn steps by what a call took.
     while done < text.len() {
         let put = write_some(sink, &text[done..])?;
         if put == 0 {
@@ -83,48 +77,32 @@ fn write_whole<W: Write>(sink: &mut W, text: &[u8]) -> io::Result<()>
     Ok(())
 }
 
-// The link after a portion, and whether its lines were written.
-#[derive(Clone, Copy)]
-struct Progress {
-    link: Link,
-    written: io::Result<()>,
-}
-
 // The lines of a portion, written where there is no room for another, and at the portion's end: whoever waits for an answer
-// before sending more has it.
+// before sending more has it. The link goes on also where a write fails.
 fn print_portion<W: Write>(
     sink: &mut W,
-    link: Link,
+    link: &mut Link,
     head: &mut [u8; record::ROWS_AT],
     rows: &mut [f64; record::FLOATS],
     bytes: &[u8],
     out: &mut [u8],
-) -> Progress
-    requires head_value { listening link head.old ≡ true }
+) -> io::Result<()>
+    requires head_value { listening link.old head.old ≡ true }
     requires longest_line_in_bounds { longest_line ≤ length out.old }
-    ensures listens { listening result.link head.new ≡ true }
-    ensures all { OnOk result.written
-        (state result.link head.new rows.new ≡ after_all (state link head.old rows.old) bytes.now) }
-    ensures printed { OnOk result.written
-        (Appends (W.contents sink.old) (W.contents sink.new) (texts (state link head.old rows.old) bytes.now)) }
+    ensures listens { listening link.new head.new ≡ true }
+    ensures all { OnOk result
+        (state link.new head.new rows.new ≡ after_all (state link.old head.old rows.old) bytes.now) }
+    ensures printed { OnOk result
+        (Appends (W.contents sink.old) (W.contents sink.new) (texts (state link.old head.old rows.old) bytes.now)) }
 {
-    let mut now = link;
     let mut from = 0;
     while from < bytes.len() {
-        let fed = link::fill(now, head, rows, &bytes[from..], out);
-        now = fed.link;
+        let fed = link::fill(*link, head, rows, &bytes[from..], out);
+        *link = fed.link;
         from += fed.taken;
-        if let Err(error) = write_whole(sink, &out[..fed.printed]) {
-            return Progress {
-                link: now,
-                written: Err(error),
-            };
-        }
+        write_whole(sink, &out[..fed.printed])?;
     }
-    Progress {
-        link: now,
-        written: Ok(()),
-    }
+    Ok(())
 }
 
 // A link that has seen nothing: all bytes count that may.
@@ -161,33 +139,23 @@ fn run<R: Read, W: Write>(source: &mut R, sink: &mut W) -> Result<(), Failure>
     let mut out = [0u8; 65536];
     let mut link = opened();
     for _ in 0..MOST_TRIES {
-        let n = match read_some(source, &mut input) {
-            Ok(n) => n,
-            Err(error) => return Err(Failure::Read(error)),
-        };
+        let n = read_some(source, &mut input).map_err(Failure::Read)?;
         if n == 0 {
             break;
         }
-        let progress = print_portion(sink, link, &mut head, &mut rows, &input[..n], &mut out);
-        if let Err(error) = progress.written {
-            return Err(Failure::Write(error));
-        }
-        link = progress.link;
+        let written = print_portion(sink, &mut link, &mut head, &mut rows, &input[..n], &mut out);
+        written.map_err(Failure::Write)?;
     }
-    if let Err(error) = print_end(sink, link, &head) {
-        return Err(Failure::Write(error));
-    }
-    Ok(())
+    print_end(sink, link, &head).map_err(Failure::Write)
 }
 
 // Says what failed, in the system's words: std's without the number behind them.
 fn complain(rt: &impl Eprint, stream: &str, error: io::Error) {
     let said = InlineText::<256>::of(error);
     let all = said.as_str();
-    let words = match all.split_once(" (os error ") {
-        Some((words, _)) => words,
-        None => all,
-    };
+    let words = all
+        .split_once(" (os error ")
+        .map_or(all, |(words, _)| words);
     let _ = eprintln!(rt; "rowrun: {stream}: {words}");
 }
 

@@ -5,12 +5,13 @@ use mathlib.Core.Bool.{Bool, true, false, not, ◌&&◌, ◌||◌, true≢false}
 use Prim.Native.Nat.{ℕ}
 use native.Mathlib.Omega.{arith}
 use lib.Ieee.{Float, binary64, round, of_bits, add, mul, div, lt, eq}
+use Rattle.std.specs.Prelude.{Ok, Err}
 use Rattle.float.specs.Operators.{when◌then◌else◌, ◌⊕◌, ◌⊗◌, ◌⊘◌, ◌≼◌, ◌≻◌, ◌≈◌}
 use Rattle.float.specs.Float.{zero, one, abs, finite}
 use Rattle.rounding.specs.Root.{root, root_units, whole_root}
 use Rattle.rows.specs.declared.Row.{Row}
 use Rattle.rows.specs.declared.Point.{Point}
-use Rattle.rows.specs.declared.Crossing.TheVariants.{At, Refused}
+use Rattle.rows.specs.declared.Refusal.TheVariants as RefusalIs
 use Rattle.rows.specs.Constants.{ccw_errbound_a}
 use Rattle.rows.specs.Rows.{zeros, normalized_by, normalized_row, determinant, singular, crossing}
 
@@ -39,7 +40,8 @@ module _ (r s : Row) where
   abbrev pub Undecided : Type 0
   Undecided = (finite (determinant r s) ≡ false) ⊎ (abs (determinant r s) ≼ ccw_errbound_a ⊗ (abs (r.a ⊗ s.b) ⊕ abs (r.b ⊗ s.a)) ≡ true)
 
-  decided : (is_finite near : Bool) (p : Point) → (when not is_finite || near then Refused 5 else At p) ≡ Refused 5 → (is_finite ≡ false) ⊎ (near ≡ true)
+  decided : (is_finite near : Bool) (p : Point)
+      → (when not is_finite || near then Err RefusalIs.Undecided else Ok p) ≡ Err RefusalIs.Undecided → (is_finite ≡ false) ⊎ (near ≡ true)
   unfolding when◌then◌else◌
   decided false near p e = inl refl
   decided true true p e = inr refl
@@ -50,6 +52,6 @@ module _ (r s : Row) where
   decides true near (inl h) = absurd (true≢false h)
   decides true near (inr h) = h
 
-  pub refuses_5 : crossing r s ≡ Refused 5 ↔ Undecided
+  pub refuses_5 : crossing r s ≡ Err RefusalIs.Undecided ↔ Undecided
   unfolding crossing singular when◌then◌else◌
   refuses_5 = (λ e. decided _ _ _ e, λ h. rw (decides _ _ h))

@@ -1,15 +1,15 @@
 -- Rows that lie flat, refusals 1 and 2, normalising, and the 2 by 2 system. Assumes nothing.
 use Rattle.std.specs.Prelude.{ℕ, ◌/◌, ◌%◌, Bool, not, ◌&&◌, ◌||◌, List, [], ◌∷◌, map, eqb, ltb, get_or, length, Float}
+use Rattle.std.specs.Prelude.{Option, Some, None, Result, Ok, Err}
 use Rattle.float.specs.Operators.{when◌then◌else◌, ◌⊕◌, ◌⊖◌, ◌⊗◌, ◌⊘◌, ◌≺◌, ◌≼◌, ◌≻◌}
 use Rattle.float.specs.Float.{zero, one, abs, finite}
 use Rattle.rounding.specs.Root.{root}
 use Rattle.rows.specs.Constants.{eps_zero, ccw_errbound_a, most_rows}
 use Rattle.rows.specs.declared.Row.{Row}
 use Rattle.rows.specs.declared.Point.{Point}
-use Rattle.rows.specs.declared.Normalized.{Normalized}
-use Rattle.rows.specs.declared.Normalized.TheVariants as NormalizedIs
-use Rattle.rows.specs.declared.Crossing.{Crossing}
-use Rattle.rows.specs.declared.Crossing.TheVariants as crossing_is
+use Rattle.rows.specs.declared.Refusal.{Refusal}
+use Rattle.rows.specs.declared.Refusal.TheVariants.{Uneven, TooMany, Undecided}
+use Rattle.rows.specs.Refusals.{unless, left_by}
 
 -- ---- rows that lie flat
 
@@ -29,10 +29,10 @@ zeros = record { a = zero; b = zero; c = zero }
 unfoldable pub row_at : List Row → ℕ → Row
 row_at rows i = get_or rows i zeros
 
--- The number of the refusal of so many floats as rows, or pairs, of so many each: 1 where they do not come out even, 2 where they are
--- too many, and 0 where they are taken.
-unfoldable pub refusal : ℕ → ℕ → ℕ
-refusal width floats = when not (eqb (floats % width) 0) then 1 else when ltb most_rows (floats / width) then 2 else 0
+-- why so many floats are not taken as rows, or pairs, of so many each, if they are not
+unfoldable pub refusal : ℕ → ℕ → Option Refusal
+refusal width floats =
+    when not (eqb (floats % width) 0) then Some Uneven else when ltb most_rows (floats / width) then Some TooMany else None
 
 -- ---- a row and a point
 
@@ -62,11 +62,11 @@ unfoldable pub normalized : List Row → List Row
 normalized rows = map normalized_row rows
 
 -- what `normalize_lp2d` returns, and what it leaves in the lent floats
-unfoldable pub normalizing : List Float → Normalized
-normalizing flat = let number = refusal 3 (length flat) in when eqb number 0 then NormalizedIs.Done else NormalizedIs.Refused number
+unfoldable pub normalizing : List Float → Result (Unit {0}) Refusal
+normalizing flat = unless (refusal 3 (length flat)) tt
 
 unfoldable pub normalized_flat : List Float → List Float
-normalized_flat flat = when eqb (refusal 3 (length flat)) 0 then flat_of (normalized (rows_of flat)) else flat
+normalized_flat flat = left_by (refusal 3 (length flat)) flat (flat_of (normalized (rows_of flat)))
 
 -- ---- the 2 by 2 system
 
@@ -78,9 +78,9 @@ unfoldable pub singular : Row → Row → Bool
 singular r s = let d = determinant r s in not (finite d) || abs d ≼ ccw_errbound_a ⊗ (abs (r.a ⊗ s.b) ⊕ abs (r.b ⊗ s.a))
 
 -- the point on both boundaries
-unfoldable pub crossing : Row → Row → Crossing
+unfoldable pub crossing : Row → Row → Result Point Refusal
 crossing r s =
     let inverse = one ⊘ determinant r s in
     let x = (r.c ⊗ s.b ⊖ r.b ⊗ s.c) ⊗ inverse in
     let y = (r.a ⊗ s.c ⊖ r.c ⊗ s.a) ⊗ inverse in
-    when singular r s then crossing_is.Refused 5 else crossing_is.At (record { x = x; y = y })
+    when singular r s then Err Undecided else Ok (record { x = x; y = y })

@@ -1,9 +1,10 @@
 // Rows: half-planes a*x + b*y <= c that lie flat in a slice, three neighbouring floats each; normalising them, and the 2 by 2 system.
 #![tactic(auto)]
 
-ghost use Rattle.std.specs.Prelude.{◌≡◌, true, not, ◌+◌, ◌*◌, ◌<◌, T, length, set};
+ghost use Rattle.std.specs.Prelude.{◌≡◌, true, not, ◌+◌, ◌*◌, ◌/◌, ◌<◌, T, length, set};
 ghost use Rattle.std.specs.Float.Ieee.{eq, is_nan};
 ghost use Rattle.float.specs.Operators.{◌⊕◌, ◌⊗◌};
+ghost use Rattle.rows.specs.Refusals.{number, unless};
 ghost use Rattle.rows.specs.Rows.{rows_of, flat_of, row_at, refusal, residual, weight, no_boundary, normalized_by, normalized};
 ghost use Rattle.rows.specs.Rows.{normalizing, normalized_flat, singular, crossing};
 ghost use Rattle.rows.specs.Kept.{Keeps};
@@ -26,18 +27,42 @@ pub struct Point {
     pub y: f64,
 }
 
-// What `normalize_lp2d` answers; a refusal by its number.
-#[derive(Clone, Copy)]
-pub enum Normalized {
-    Done,
-    Refused(u64),
+// Why an entry refuses. Each has a number, by which the rules list it, lines print it, and C is told.
+#[derive(Clone, Copy, PartialEq, Eq)]
+pub enum Refusal {
+    // 1: the floats lent do not come out even.
+    Uneven,
+    // 2: there are more rows, or pairs, than are taken.
+    TooMany,
+    // 5: the determinant is not finite or within its error bound.
+    Undecided,
+    // 6: recovery found nothing.
+    NothingFound,
+    // 7: the prefix is longer than the rows.
+    PrefixTooLong,
+    // 8: a record is cut by the end of the input.
+    Cut,
+    // 9: no record has this kind.
+    UnknownKind,
+    // 10: a record's body has a wrong size, or a number names no mode of normalising.
+    Malformed,
 }
 
-// What `solve_2x2` answers; a refusal by its number.
-#[derive(Clone, Copy)]
-pub enum Crossing {
-    At(Point),
-    Refused(u64),
+impl From<Refusal> for u64 {
+    ghost from_gives = { λ refusal n. n ≡ number refusal };
+
+    fn from(refusal: Refusal) -> u64 {
+        match refusal {
+            Refusal::Uneven => 1,
+            Refusal::TooMany => 2,
+            Refusal::Undecided => 5,
+            Refusal::NothingFound => 6,
+            Refusal::PrefixTooLong => 7,
+            Refusal::Cut => 8,
+            Refusal::UnknownKind => 9,
+            Refusal::Malformed => 10,
+        }
+    }
 }
 
 // Two squares with their roots: that of the row in hand, and another.
@@ -49,18 +74,18 @@ pub struct Kept {
     pub beyond: f64,
 }
 
-// The number of the refusal of so many floats as rows, or pairs, of so many each; 0 where they are taken.
-pub fn refusal(width: usize, floats: usize) -> u64
+// How many rows, or pairs, lie in so many floats, of which each takes `width`; refusals 1 and 2.
+pub fn count(width: usize, floats: usize) -> Result<usize, Refusal>
     requires { 0 < width }
-    ensures { result ≡ refusal width floats }
+    ensures { result ≡ unless (refusal width floats) (floats / width) }
 {
     if floats % width != 0 {
-        return 1;
+        return Err(Refusal::Uneven);
     }
     if floats / width > MOST_ROWS {
-        return 2;
+        return Err(Refusal::TooMany);
     }
-    0
+    Ok(floats / width)
 }
 
 // ---- the only functions that index rows
@@ -164,15 +189,11 @@ fn square_of(r: Row) -> f64
 fn following(rows: &[f64], n: usize, k: usize, square: f64) -> f64
     requires { (3 * n ≡ length rows.now) × (k < n) }
 {
-    let mut i = k + 1;
-    while i < n {
+    for i in k + 1..n {
         let next = square_of(row_at(rows, i));
-        if rounding::pair::ordinary(next) {
-            if next != square {
-                return next;
-            }
+        if rounding::pair::ordinary(next) && next != square {
+            return next;
         }
-        i += 1;
     }
     0.0
 }
@@ -215,8 +236,7 @@ pub fn normalize(rows: &mut [f64], n: usize)
         ahead: 0.0,
         beyond: 0.0,
     };
-    let mut k = 0usize;
-    while k < n {
+    for k in 0..n {
         let r = row_at(rows, k);
         let square = square_of(r);
         if rounding::pair::ordinary(square) {
@@ -228,22 +248,17 @@ pub fn normalize(rows: &mut [f64], n: usize)
             let u = scaled(r, norm);
             put_row(rows, k, u);
         }
-        k += 1;
     }
 }
 
 // Public: normalises the lent rows; a refusal, 1 or 2, leaves them as they were.
-pub fn normalize_lp2d(rows: &mut [f64]) -> Normalized
+pub fn normalize_lp2d(rows: &mut [f64]) -> Result<(), Refusal>
     ensures answer { result ≡ normalizing rows.old }
     ensures lent { rows.new ≡ normalized_flat rows.old }
 {
-    let number = refusal(3, rows.len());
-    if number != 0 {
-        return Normalized::Refused(number);
-    }
-    let n = rows.len() / 3;
+    let n = count(3, rows.len())?;
     normalize(rows, n);
-    Normalized::Done
+    Ok(())
 }
 
 // ---- the 2 by 2 system
@@ -262,14 +277,14 @@ pub fn singular(r: Row, s: Row) -> bool
 }
 
 // Public: the point on both boundaries; refusal 5 where the determinant does not decide one.
-pub fn solve_2x2(r: Row, s: Row) -> Crossing
+pub fn solve_2x2(r: Row, s: Row) -> Result<Point, Refusal>
     ensures { result ≡ crossing r s }
 {
     if singular(r, s) {
-        return Crossing::Refused(5);
+        return Err(Refusal::Undecided);
     }
     let inverse = 1.0 / (r.a * s.b - r.b * s.a);
     let x = float::settled((r.c * s.b - r.b * s.c) * inverse);
     let y = float::settled((r.a * s.c - r.c * s.a) * inverse);
-    Crossing::At(Point { x: x, y: y })
+    Ok(Point { x: x, y: y })
 }

@@ -1,4 +1,3 @@
 pub mod Rules
 pub mod Count
 pub mod Turns
-pub mod Answers

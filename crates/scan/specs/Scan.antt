@@ -1,12 +1,10 @@
 -- Scans of residuals. Assumes nothing.
 use Rattle.std.specs.Prelude.{Bool, true, false, not, List, [], ◌∷◌, Float}
 use Rattle.float.specs.Operators.{when◌then◌else◌, ◌≼◌, ◌≻◌}
-use Rattle.readings.specs.Readings.{Counted, pure, read, ◌>>◌, Paid, paid, stopped}
+use Rattle.readings.specs.Readings.{Counted, pure, read, ◌>>◌}
 use Rattle.rows.specs.declared.Row.{Row}
 use Rattle.rows.specs.declared.Point.{Point}
 use Rattle.rows.specs.Rows.{residual}
-use Rattle.scan.specs.declared.Scan.{Scan}
-use Rattle.scan.specs.declared.Scan.TheVariants.{Pass, Fail, Spent}
 
 -- whether every row passes a test; each takes a reading, the first that fails included, which ends the scan
 unfoldable pub every : (Row → Bool) → List Row → Counted Bool
@@ -19,9 +17,3 @@ meets ε p r = residual r p ≼ ε
 
 unfoldable pub not_above : Float → Point → Row → Bool
 not_above ε p r = not (residual r p ≻ ε)
-
--- what the code gives back
-unfoldable pub scanned : Paid Bool → Scan
-scanned (paid true left) = Pass left
-scanned (paid false left) = Fail left
-scanned stopped = Spent

@@ -4,59 +4,46 @@
 ghost use Rattle.std.specs.Prelude.{◌≡◌, cond, ◌*◌, ◌≤◌, length, take};
 ghost use Rattle.readings.specs.Readings.{within};
 ghost use Rattle.rows.specs.Rows.{rows_of};
-ghost use Rattle.scan.specs.Scan.{every, meets, not_above, scanned};
+ghost use Rattle.scan.specs.Scan.{every, meets, not_above};
 
+use readings::Paid;
 use rows::{Point, Row};
 
-// Every row passed, or one failed, with the readings left; or too few were left.
-#[derive(Clone, Copy)]
-pub enum Scan {
-    Pass(u64),
-    Fail(u64),
-    Spent,
-}
-
-// Projection's test where `strict`, and rebuilding's where not: a NaN residual fails the first and passes the second.
-fn passes(strict: bool, eps: f64, p: Point, r: Row) -> bool
-    ensures { result ≡ cond strict (meets eps p) (not_above eps p) r }
+// Projection's test where STRICT, and rebuilding's where not: a NaN residual fails the first and passes the second.
+fn passes<const STRICT: bool>(eps: f64, p: Point, r: Row) -> bool
+    ensures { result ≡ cond STRICT (meets eps p) (not_above eps p) r }
 {
     let v = rows::residual(r, p);
-    if strict { v <= eps } else { !(v > eps) }
+    if STRICT { v <= eps } else { !(v > eps) }
 }
 
-// Both scans. Called with a constant, each is a loop of its own in the built code.
-fn every(strict: bool, rows: &[f64], upto: usize, p: Point, eps: f64, left: u64) -> Scan
+// Both scans, each a loop of its own in the built code.
+fn every<const STRICT: bool>(rows: &[f64], upto: usize, p: Point, eps: f64, left: u64) -> Paid<bool>
     requires { 3 * upto ≤ length rows.now }
-    ensures { result ≡ scanned (within left (every (cond strict (meets eps p) (not_above eps p)) (take upto (rows_of rows.now)))) }
+    ensures { result ≡ within left (every (cond STRICT (meets eps p) (not_above eps p)) (take upto (rows_of rows.now))) }
 {
     let mut rest = left;
-    let mut i = 0usize;
-    while i < upto {
-        if rest == 0 {
-            return Scan::Spent;
-        }
-        rest -= 1;
-        if passes(strict, eps, p, rows::row_at(rows, i)) {
-            i += 1;
-        } else {
-            return Scan::Fail(rest);
+    for i in 0..upto {
+        rest = readings::pay(rest, 1)?;
+        if !passes::<STRICT>(eps, p, rows::row_at(rows, i)) {
+            return Ok((false, rest));
         }
     }
-    Scan::Pass(rest)
+    Ok((true, rest))
 }
 
 // Every residual is at most eps: a NaN fails.
-pub fn all_met(rows: &[f64], upto: usize, p: Point, eps: f64, left: u64) -> Scan
+pub fn all_met(rows: &[f64], upto: usize, p: Point, eps: f64, left: u64) -> Paid<bool>
     requires { 3 * upto ≤ length rows.now }
-    ensures { result ≡ scanned (within left (every (meets eps p) (take upto (rows_of rows.now)))) }
+    ensures { result ≡ within left (every (meets eps p) (take upto (rows_of rows.now))) }
 {
-    every(true, rows, upto, p, eps, left)
+    every::<true>(rows, upto, p, eps, left)
 }
 
 // No residual is above eps: a NaN passes.
-pub fn none_above(rows: &[f64], upto: usize, p: Point, eps: f64, left: u64) -> Scan
+pub fn none_above(rows: &[f64], upto: usize, p: Point, eps: f64, left: u64) -> Paid<bool>
     requires { 3 * upto ≤ length rows.now }
-    ensures { result ≡ scanned (within left (every (not_above eps p) (take upto (rows_of rows.now)))) }
+    ensures { result ≡ within left (every (not_above eps p) (take upto (rows_of rows.now))) }
 {
-    every(false, rows, upto, p, eps, left)
+    every::<false>(rows, upto, p, eps, left)
 }

@@ -4,19 +4,24 @@ use mathlib.Core.Path.{◌≡◌, refl, sym, ap, ◌∙◌}
 use mathlib.Core.Logic.{◌⊎◌, inl, inr, ⊎_elim, ◌↔◌, ◌≢◌}
 use mathlib.Core.List.{List}
 use Prim.Native.Nat.{ℕ, ◌≤◌, ◌<◌}
-use native.Mathlib.Decide.{ℕ_discrete, dec_le}
+use native.Mathlib.Decide.{dec_le}
 use native.Mathlib.Nat.{lt_of_not-le}
 use native.Mathlib.Omega.{arith}
-use borrow.Author.Tests.{lt-ltb, le-ltb, eq-eqb, ne_eqb}
+use borrow.Author.Tests.{lt-ltb, le-ltb}
 use lib.Ieee.{Float}
 use Rattle.float.specs.Operators.{when◌then◌else◌}
+use Rattle.std.specs.Prelude.{Option, Some, None, Err}
 use Rattle.rows.specs.declared.Row.{Row}
+use Rattle.rows.specs.declared.Refusal.{Refusal}
+use Rattle.rows.specs.Refusals as Refusals
+use Rattle.rows.proofs.Refusals.{numbered}
 use Rattle.rows.specs.Rows.{rows_of, flat_of}
 use Rattle.active.specs.declared.Active.{Active}
 use Rattle.once.specs.declared.Task.{Task}
 use Rattle.solve.specs.declared.Answer.{Answer}
-use Rattle.solve.specs.declared.Outcome.TheVariants.{Answered, Stopped, Refused}
-use Rattle.solve.specs.Solve.{all_solves, last_of, count, rows_within, answer, active_rows, Ended, answered, finished, allowed}
+use Rattle.solve.specs.declared.Solved.{Solved}
+use Rattle.solve.specs.declared.Unsolved.TheVariants.{Stopped, Refused}
+use Rattle.solve.specs.Solve.{Answered, all_solves, last_of, count, rows_within, answer, active_rows, Ended, answered, finished, allowed}
 use Rattle.solve.specs.Solve.{refusal_of, taken, solve, lp2d_incre_max_y, number}
 use Rattle.solve.proofs.Refusals.{no_other}
 
@@ -32,7 +37,7 @@ module _ (T : Task) (rows : List Row) where
   unfolding allowed when◌then◌else◌
   finishes A within = rw (le-ltb A (count (all_solves T rows)) within)
 
-  pub stops : (A : ℕ) → A < count (all_solves T rows) → allowed T A rows ≡ record { outcome = Stopped A; rows = rows_within A rows (all_solves T rows) }
+  pub stops : (A : ℕ) → A < count (all_solves T rows) → allowed T A rows ≡ record { outcome = Err (Stopped A); rows = rows_within A rows (all_solves T rows) }
   unfolding allowed when◌then◌else◌
   stops A above = rw (lt-ltb A (count (all_solves T rows)) above)
 
@@ -50,30 +55,42 @@ module _ (T : Task) (rows : List Row) where
 
 -- ---- over flat floats
 
-module _ (T : Task) (solving : List Row → Ended (List Row)) (flat : List Float) where
-  pub refuses : refusal_of T flat ≢ 0 → taken T solving flat ≡ record { outcome = Refused (refusal_of T flat); rows = flat }
-  unfolding taken when◌then◌else◌
-  refuses refused = rw (ne_eqb (refusal_of T flat) 0 refused)
+-- refused, or not
+abbrev Whether : Task → List Float → Type 0
+Whether T flat = (refusal_of T flat ≡ None) ⊎ ((why : Refusal) × (refusal_of T flat ≡ Some why))
 
-  pub takes : refusal_of T flat ≡ 0 → taken T solving flat ≡ record { outcome = (solving (rows_of flat)).outcome; rows = flat_of (solving (rows_of flat)).rows }
-  unfolding taken when◌then◌else◌
-  takes fits = rw (eq-eqb (refusal_of T flat) 0 fits)
+pub whether : (T : Task) (flat : List Float) → Whether T flat
+whether T flat = go (refusal_of T flat) refl
+  where
+    go : (w : Option Refusal) → refusal_of T flat ≡ w → Whether T flat
+    go None e = inl e
+    go (Some why) e = inr (why, e)
+
+module _ (T : Task) (solving : List Row → Ended (List Row)) (flat : List Float) where
+  pub refuses : {why : Refusal} → refusal_of T flat ≡ Some why → taken T solving flat ≡ record { outcome = Err (Refused why); rows = flat }
+  unfolding taken
+  refuses refused = rw refused
+
+  pub takes : refusal_of T flat ≡ None
+      → taken T solving flat ≡ record { outcome = (solving (rows_of flat)).outcome; rows = flat_of (solving (rows_of flat)).rows }
+  unfolding taken
+  takes fits = rw fits
 
   taken_alike : (other : List Row → Ended (List Row)) → solving (rows_of flat) ≡ other (rows_of flat) → taken T solving flat ≡ taken T other flat
   unfolding taken
   taken_alike other e = rw e
 
 module _ (T : Task) (flat : List Float) where
-  pub lp2d_incre_max_y_refuses : refusal_of T flat ≢ 0 → lp2d_incre_max_y T flat ≡ record { outcome = Refused (refusal_of T flat); rows = flat }
+  pub lp2d_incre_max_y_refuses : {why : Refusal} → refusal_of T flat ≡ Some why → lp2d_incre_max_y T flat ≡ record { outcome = Err (Refused why); rows = flat }
   unfolding lp2d_incre_max_y
   lp2d_incre_max_y_refuses = refuses T (finished T) flat
 
-  pub lp2d_incre_max_y_answers : refusal_of T flat ≡ 0
+  pub lp2d_incre_max_y_answers : refusal_of T flat ≡ None
       → (a : Answer) × (act : Active) × ((lp2d_incre_max_y T flat).outcome ≡ Answered a act (count (all_solves T (rows_of flat))))
   unfolding lp2d_incre_max_y
   lp2d_incre_max_y_answers fits = rw (takes T (finished T) flat fits) (finished_answers T (rows_of flat))
 
-  pub solve_refuses : (A : ℕ) → refusal_of T flat ≢ 0 → solve T A flat ≡ record { outcome = Refused (refusal_of T flat); rows = flat }
+  pub solve_refuses : (A : ℕ) {why : Refusal} → refusal_of T flat ≡ Some why → solve T A flat ≡ record { outcome = Err (Refused why); rows = flat }
   unfolding solve
   solve_refuses A = refuses T (allowed T A) flat
 
@@ -82,37 +99,46 @@ module _ (T : Task) (flat : List Float) where
   unfolding solve lp2d_incre_max_y
   solve_finishes A within = taken_alike T (allowed T A) flat (finished T) (finishes T (rows_of flat) A within)
 
-  pub solve_stops : (A : ℕ) → refusal_of T flat ≡ 0 → A < count (all_solves T (rows_of flat))
-      → solve T A flat ≡ record { outcome = Stopped A; rows = flat_of (rows_within A (rows_of flat) (all_solves T (rows_of flat))) }
+  pub solve_stops : (A : ℕ) → refusal_of T flat ≡ None → A < count (all_solves T (rows_of flat))
+      → solve T A flat ≡ record { outcome = Err (Stopped A); rows = flat_of (rows_within A (rows_of flat) (all_solves T (rows_of flat))) }
   unfolding solve
   solve_stops A fits above = takes T (allowed T A) flat fits ∙ rw (stops T (rows_of flat) A above)
 
-  outcome_where_taken : (A : ℕ) → refusal_of T flat ≡ 0 → (solve T A flat).outcome ≡ (allowed T A (rows_of flat)).outcome
+  outcome_where_taken : (A : ℕ) → refusal_of T flat ≡ None → (solve T A flat).outcome ≡ (allowed T A (rows_of flat)).outcome
   unfolding solve
   outcome_where_taken A fits = rw (takes T (allowed T A) flat fits)
 
-  number_where_refused : (A : ℕ) → refusal_of T flat ≢ 0 → number (solve T A flat).outcome ≡ refusal_of T flat
+  number_where_refused : (A : ℕ) {why : Refusal} → refusal_of T flat ≡ Some why → number (solve T A flat).outcome ≡ Refusals.number why
   unfolding number
   number_where_refused A refused = rw (solve_refuses A refused)
 
+  refused_below_3 : {why : Refusal} → refusal_of T flat ≡ Some why → Refusals.number why < 3
+  refused_below_3 refused = omega (arith, rw refused at (no_other T flat))
+
   -- any number but 1 and 2 comes from rows that were taken
-  taken_where : (A : ℕ) → number (solve T A flat).outcome ≢ 1 → number (solve T A flat).outcome ≢ 2 → refusal_of T flat ≡ 0
+  taken_where : (A : ℕ) → number (solve T A flat).outcome ≢ 1 → number (solve T A flat).outcome ≢ 2 → refusal_of T flat ≡ None
   taken_where A not-1 not-2 =
-      let not_refused : ¬ (0 < refusal_of T flat) = λ refused. omega (arith, number_where_refused A (omega arith), no_other T flat) in
-      omega arith
+      elim (whether T flat) [
+        | inl fits ↦ fits
+        | inr refused ↦ absurd (omega (arith, number_where_refused A refused.1, numbered refused.0, refused_below_3 refused.1))
+      ]
 
   -- refusals 1 and 2 are given exactly where the floats are refused
-  pub solve_refuses_exactly : (A k : ℕ) → 0 < k → k < 3 → number (solve T A flat).outcome ≡ k ↔ refusal_of T flat ≡ k
-  solve_refuses_exactly A k some few = (
+  pub solve_refuses_exactly : (A : ℕ) (why : Refusal) → Refusals.number why < 3 → ((r : Refusal) → Refusals.number r ≡ Refusals.number why → r ≡ why)
+      → number (solve T A flat).outcome ≡ Refusals.number why ↔ refusal_of T flat ≡ Some why
+  solve_refuses_exactly A why few alone = (
     λ e.
-        let not_taken : ¬ (refusal_of T flat ≡ 0) = λ fits.
-        let same = sym (ap number (outcome_where_taken A fits)) ∙ e in
-        omega (arith, number_above T (rows_of flat) A (above_where_refused T (rows_of flat) A (omega arith))) in
-        sym (number_where_refused A not_taken) ∙ e,
-    λ e. number_where_refused A (omega arith) ∙ e,
+        elim (whether T flat) [
+          | inl fits ↦
+              let same = sym (ap number (outcome_where_taken A fits)) ∙ e in
+              let three = number_above T (rows_of flat) A (above_where_refused T (rows_of flat) A (λ zero. omega (arith, same, numbered why))) in
+              absurd (omega (arith, same, three))
+          | inr refused ↦ refused.1 ∙ ap Some (alone refused.0 (sym (number_where_refused A refused.1) ∙ e))
+        ],
+    λ e. number_where_refused A e,
   )
 
-  pub solve_three_exactly : (A : ℕ) → number (solve T A flat).outcome ≡ 3 ↔ (refusal_of T flat ≡ 0) × (A < count (all_solves T (rows_of flat)))
+  pub solve_three_exactly : (A : ℕ) → number (solve T A flat).outcome ≡ 3 ↔ (refusal_of T flat ≡ None) × (A < count (all_solves T (rows_of flat)))
   solve_three_exactly A = (
     λ three.
         let fits = taken_where A (omega arith) (omega arith) in
@@ -125,15 +151,15 @@ module _ (T : Task) (flat : List Float) where
       → ((a : Answer) × (act : Active) × ((solve T A flat).outcome ≡ Answered a act (count (all_solves T (rows_of flat)))))
       ⊎ ((0 < number (solve T A flat).outcome) × (number (solve T A flat).outcome < 4))
   solve_answers_or_refuses A =
-      elim (ℕ_discrete (refusal_of T flat) 0) [
-        | yes fits ↦
+      elim (whether T flat) [
+        | inl fits ↦
             elim (dec_le (count (all_solves T (rows_of flat))) A) [
               | yes within ↦ inl (rw (solve_finishes A within) (lp2d_incre_max_y_answers fits))
               | no above ↦ let three = (solve_three_exactly A).1 (fits, omega arith) in inr (omega arith, omega arith)
             ]
-        | no refused ↦
-            let number_is = number_where_refused A refused in
-            inr (omega arith, omega (arith, no_other T flat))
+        | inr refused ↦
+            let number_is = number_where_refused A refused.1 in
+            inr (omega (arith, number_is, numbered refused.0), omega (arith, number_is, refused_below_3 refused.1))
       ]
 
   -- and no other number
@@ -144,14 +170,14 @@ module _ (T : Task) (flat : List Float) where
   pub lp2d_incre_max_y_no_other : number (lp2d_incre_max_y T flat).outcome < 3
   unfolding number
   lp2d_incre_max_y_no_other =
-      elim (ℕ_discrete (refusal_of T flat) 0) [
-        | yes fits ↦ rw (lp2d_incre_max_y_answers fits).2 (omega arith)
-        | no refused ↦ rw (lp2d_incre_max_y_refuses refused) (no_other T flat)
+      elim (whether T flat) [
+        | inl fits ↦ rw (lp2d_incre_max_y_answers fits).2 (omega arith)
+        | inr refused ↦ rw (lp2d_incre_max_y_refuses refused.1) (refused_below_3 refused.1)
       ]
 
   -- an answer keeps within the allowance
   pub keeps_within : (A : ℕ) {a : Answer} {act : Active} {n : ℕ} → (solve T A flat).outcome ≡ Answered a act n
-      → (refusal_of T flat ≡ 0) × (count (all_solves T (rows_of flat)) ≤ A)
+      → (refusal_of T flat ≡ None) × (count (all_solves T (rows_of flat)) ≤ A)
   unfolding number
   keeps_within A e =
       let fits = taken_where A (omega (arith, ap number e)) (omega (arith, ap number e)) in
@@ -170,4 +196,6 @@ module _ (T : Task) (flat : List Float) where
       let without = lp2d_incre_max_y_answers within.0 in
       let finished = ap (λ (x : Ended (List Float)). x.outcome) (solve_finishes A within.1) ∙ without.2 in
       let same : Answered a act n ≡ Answered without.0 without.1 (count (all_solves T (rows_of flat))) = sym e ∙ finished in
-      cc
+      let solved : ◌≡◌ {A = Solved} (record { answer = a; active = act; count = n })
+      (record { answer = without.0; active = without.1; count = count (all_solves T (rows_of flat)) }) = cc in
+      ap (λ (s : Solved). s.count) solved

@@ -1,4 +1,5 @@
 -- A solve of no row or one, case by case: what the code does next is what the definition says.
+use Rattle.std.specs.Prelude.{None, Err}
 use mathlib.Core.Path.{◌≡◌, refl, sym, ◌∙◌}
 use mathlib.Core.List.{List, [], ◌∷◌}
 use Prim.Native.Nat.{ℕ, zero, suc, ◌*◌, ◌≤◌, ◌<◌}
@@ -11,20 +12,19 @@ use Rattle.rows.specs.declared.Row.{Row}
 use Rattle.rows.specs.Rows.{rows_of, flat_of, row_at}
 use Rattle.rows.proofs.Lengths.{length-rows_of}
 use Rattle.rows.proofs.Written.{flat_rows}
-use Rattle.step.specs.declared.Found.TheVariants.{Failed}
 use Rattle.once.specs.declared.Task.{Task}
 use Rattle.once.specs.Once.{lone, once}
-use Rattle.solve.specs.declared.Outcome.TheVariants.{Answered, Stopped}
-use Rattle.solve.specs.Solve.{solves, all_solves, last_of, count, rows_within, answer, active_rows, answered, finished, allowed}
+use Rattle.solve.specs.declared.Unsolved.TheVariants.{Stopped}
+use Rattle.solve.specs.Solve.{Answered, solves, all_solves, last_of, count, rows_within, answer, active_rows, answered, finished, allowed}
 use Rattle.solve.proofs.Allowance.{finishes, stops}
 
 module _ (T : Task) (A : ℕ) where
-  pub none-answered : (rows : List Row) → length rows ≡ 0 → allowed T A rows ≡ record { outcome = Answered (answer Failed) (active_rows Failed) 0; rows = rows }
+  pub none-answered : (rows : List Row) → length rows ≡ 0 → allowed T A rows ≡ record { outcome = Answered (answer None) (active_rows None) 0; rows = rows }
   unfolding finished answered all_solves solves last_of once count pure when◌then◌else◌
   none-answered [] none = finishes T [] A (omega arith)
   none-answered (r ∷ rows) none = absurd (omega arith)
 
-  pub one-stopped : (rows : List Row) → length rows ≡ 1 → A ≡ 0 → allowed T A rows ≡ record { outcome = Stopped 0; rows = rows }
+  pub one-stopped : (rows : List Row) → length rows ≡ 1 → A ≡ 0 → allowed T A rows ≡ record { outcome = Err (Stopped 0); rows = rows }
   unfolding rows_within all_solves solves once count pure read ◌>>◌ when◌then◌else◌
   one-stopped [] one spent = absurd (omega arith)
   one-stopped (r ∷ []) one spent = stops T (r ∷ []) A (omega arith) ∙ rw spent

@@ -2,7 +2,7 @@
 use mathlib.Core.Path.{◌≡◌, refl, ◌∙◌}
 use mathlib.Core.List.{List, [], ◌∷◌}
 use Prim.Native.Nat.{ℕ}
-use native.Mathlib.Decide.{ℕ_discrete}
+use mathlib.Core.Logic.{inl, inr}
 use native.Mathlib.Omega.{arith}
 use lib.ListN.{length}
 use lib.Ieee.{Float}
@@ -14,9 +14,9 @@ use Rattle.once.specs.declared.Normalize.{Normalize}
 use Rattle.once.specs.declared.Normalize.TheVariants.{Off, Source}
 use Rattle.once.specs.declared.Task.{Task}
 use Rattle.once.specs.Once.{prepared, many, once}
-use Rattle.solve.specs.Solve.{allowed, refusal_of, solve}
+use Rattle.solve.specs.Solve.{allowed, solve}
 use Rattle.solve.proofs.Refusals.{refusal_0}
-use Rattle.solve.proofs.Allowance.{takes, solve_refuses}
+use Rattle.solve.proofs.Allowance.{whether, takes, solve_refuses}
 use Rattle.solve.proofs.Growing.{allowed_keeps}
 
 pub length-prepared : (mode : Normalize) (rows : List Row) → length (prepared mode rows).value ≡ length rows
@@ -41,10 +41,10 @@ module _ (T : Task) (A : ℕ) where
   pub length-solve : (flat : List Float) → length (solve T A flat).rows ≡ length flat
   unfolding solve
   length-solve flat =
-      elim (ℕ_discrete (refusal_of T flat) 0) [
-        | yes fits ↦
+      elim (whether T flat) [
+        | inl fits ↦
             let rows = (allowed T A (rows_of flat)).rows in
             let even = ((refusal_0 T flat).0 fits).0 in
             rw (takes T (allowed T A) flat fits) (omega (arith, length-flat_of rows, length-allowed (rows_of flat), length-rows_of flat))
-        | no refused ↦ rw (solve_refuses T flat A refused)
+        | inr refused ↦ rw (solve_refuses T flat A refused.1)
       ]

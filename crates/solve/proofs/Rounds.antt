@@ -1,7 +1,8 @@
 -- The law by which the loop of `solve::many` follows the definition: what the solves still to go come to with the readings left, and one fact for each way
 -- out of a turn.
+use Rattle.std.specs.Prelude.{Option, Ok, Err}
 use mathlib.Core.Path.{◌≡◌, refl, sym, ap, subst, ◌∙◌}
-use mathlib.Core.Logic.{◌⊎◌, inl, inr, ⊎_map}
+use mathlib.Core.Logic.{◌⊎◌, ⊎_map}
 use mathlib.Core.Bool.{Bool, true, false}
 use mathlib.Core.List.{List, [], ◌∷◌}
 use Prim.Native.Nat.{ℕ, suc, ◌+◌, ◌-◌, ◌*◌, ◌≤◌, ◌<◌}
@@ -11,23 +12,19 @@ use borrow.Author.Tests.{lt-ltb, le-ltb, ltb-true, ltb-false}
 use lib.ListN.{length}
 use lib.Ieee.{Float}
 use Rattle.float.specs.Operators.{when◌then◌else◌, ◌⊗◌}
-use Rattle.readings.specs.Readings.{within}
+use Rattle.readings.specs.Readings.{Paid, within}
 use Rattle.rows.specs.Constants.{lp_bound, lp_box_growth}
 use Rattle.rows.specs.declared.Row.{Row}
 use Rattle.rows.specs.Rows.{rows_of, flat_of}
 use Rattle.rows.proofs.Lengths.{length-rows_of}
 use Rattle.rows.proofs.Written.{flat_rows}
-use Rattle.step.specs.declared.Found.{Found}
-use Rattle.step.specs.declared.Found.TheVariants.{Done}
-use Rattle.once.specs.declared.Normalize.{Normalize}
+use Rattle.step.specs.declared.State.{State}
 use Rattle.once.specs.declared.Task.{Task}
 use Rattle.once.specs.declared.Round.{Round}
-use Rattle.once.specs.declared.Round.TheVariants.{Off, OnBox, Spent}
-use Rattle.solve.specs.declared.Outcome.{Outcome}
-use Rattle.solve.specs.declared.Outcome.TheVariants.{Answered, Stopped}
-use Rattle.once.specs.Once.{Once, prepared, many, once, leaves, rounding}
+use Rattle.once.specs.Once.{Once, prepared, many, once, leaves, solving_once}
 use Rattle.solve.specs.Solve.{Solves, last, ◌before◌, solves, all_solves, last_of, taken_by, count, rows_within, answer, active_rows}
-use Rattle.solve.specs.Solve.{Ended, answered, finished, allowed}
+use Rattle.solve.specs.declared.Unsolved.TheVariants.{Stopped}
+use Rattle.solve.specs.Solve.{Outcome, Answered, Ended, answered, finished, allowed}
 use Rattle.solve.proofs.Growing.{first_of, first_counted, is_first, ends, grows}
 use Rattle.solve.proofs.RowsLeft.{normalised_on}
 use Rattle.solve.proofs.Answers.{Ran, Told, told}
@@ -37,10 +34,10 @@ use Rattle.solve.proofs.Answers.{Ran, Told, told}
 module _ (A : ℕ) where
   unfoldable pub ending : ℕ → List Row → Solves → Ended (List Row)
   ending left rows os =
-      when ltb left (count os) then record { outcome = Stopped A; rows = rows_within left rows os } else answered (A - left + count os) (last_of os)
+      when ltb left (count os) then record { outcome = Err (Stopped A); rows = rows_within left rows os } else answered (A - left + count os) (last_of os)
 
   module _ (left : ℕ) (rows : List Row) (os : Solves) where
-    ends-stopped : left < count os → ending left rows os ≡ record { outcome = Stopped A; rows = rows_within left rows os }
+    ends-stopped : left < count os → ending left rows os ≡ record { outcome = Err (Stopped A); rows = rows_within left rows os }
     unfolding ending when◌then◌else◌
     ends-stopped above = rw (lt-ltb left (count os) above)
 
@@ -49,7 +46,8 @@ module _ (A : ℕ) where
     ends-answered within = rw (le-ltb left (count os) within)
 
   -- the first of them came to its end
-  module _ {left l : ℕ} (enough : left ≤ A) (rows : List Row) {o : Once} {kept : List Row} {found : Found} {on : Bool} (r : Ran left o kept found l on) where
+  module _ {left l : ℕ} (enough : left ≤ A) (rows : List Row) {o : Once} {kept : List Row} {found : Option State} {on : Bool}
+      (r : Ran left o kept found l on) where
     last_answers : ending left rows (last o) ≡ record { outcome = Answered (answer found) (active_rows found) (A - l); rows = kept }
     unfolding count last_of answered
     last_answers =
@@ -94,14 +92,14 @@ module _ (T : Task) (A : ℕ) where
 
     -- too few are left for the first
     first_stops : {kept : List Row} → (left < taken_by first) × ((os : Solves) → first_of os ≡ first → rows_within left rows os ≡ kept)
-        → from k left rows bound ≡ record { outcome = Stopped A; rows = kept }
+        → from k left rows bound ≡ record { outcome = Err (Stopped A); rows = kept }
     unfolding from
     first_stops s =
         let all = solves k T rows bound in
         let is : first_of all ≡ first = is_first T rows bound k ∙ once-many T rows bound two in
         ends-stopped A left rows all (omega (arith, rw is at (first_counted all), s.0)) ∙ rw (s.1 all is)
 
-    module _ (enough : left ≤ A) {kept : List Row} {found : Found} {l : ℕ} {on : Bool} (r : Ran left first kept found l on) where
+    module _ (enough : left ≤ A) {kept : List Row} {found : Option State} {l : ℕ} {on : Bool} (r : Ran left first kept found l on) where
       sits : (once T rows bound).saturated ≡ on
       sits = rw (once-many T rows bound two) r.sits
 
@@ -123,16 +121,15 @@ module _ (T : Task) (A : ℕ) where
 -- ---- a turn of the loop
 
 -- before it: k solves are done, each on its box, and those to go come to what all come to
-pub record Going (T : Task) (A n : ℕ) (rows₀ : List Row) (flat : List Float) (mode : Normalize) (bound : Float) (left k : ℕ) : Type 0 where
+pub record Going (T : Task) (A n : ℕ) (rows₀ : List Row) (flat : List Float) (bound : Float) (left k : ℕ) : Type 0 where
   pub even : length flat ≡ 3 * n
   pub few : k ≤ 6
   pub enough : left ≤ A
-  pub again : mode ≡ T.normalize
   pub rest : from T A (6 - k) left (rows_of flat) bound ≡ allowed T A rows₀
 
-module _ {T : Task} {A n : ℕ} (two : 2 ≤ n) {rows₀ : List Row} {flat flat' : List Float} {mode : Normalize} {bound : Float} {left k : ℕ}
-    (g : Going T A n rows₀ flat mode bound left k)
-    (lent : flat' ≡ leaves flat (within left (prepared mode (rows_of flat)))) (same : length flat' ≡ length flat) where
+module _ {T : Task} {A n : ℕ} (two : 2 ≤ n) {rows₀ : List Row} {flat flat' : List Float} {bound : Float} {left k : ℕ}
+    (g : Going T A n rows₀ flat bound left k)
+    (lent : flat' ≡ leaves flat (within left (prepared T.normalize (rows_of flat)))) (same : length flat' ≡ length flat) where
   more : 2 ≤ length (rows_of flat)
   more = omega (arith, length-rows_of flat, g.even)
 
@@ -146,36 +143,31 @@ module _ {T : Task} {A n : ℕ} (two : 2 ≤ n) {rows₀ : List Row} {flat flat'
       (ap (λ x. x.outcome) all, sym (flat_rows flat' n (omega (arith, same, g.even))) ∙ ap (λ x. flat_of x.rows) all)
 
   -- or goes on, where the answer sits on the box and the solve is not the seventh
-  abbrev pub After : Round → Type 0
-  After (Off found l) = (l ≤ A) × Ends (Answered (answer found) (active_rows found) (A - l))
-  After (OnBox s l) =
-      (l ≤ A) × (6 ≤ k → Ends (Answered (answer (Done s)) (active_rows (Done s)) (A - l)))
-      × (k < 6 → Going T A n rows₀ flat' T.normalize (bound ⊗ lp_box_growth) l (k + 1))
-  After Spent = Ends (Stopped A)
+  pub record Turn (round : Round) (l : ℕ) : Type 0 where
+    pub enough : l ≤ A
+    pub ends : (6 - k ≡ 0) ⊎ (round.sits_on_box ≡ false) → Ends (Answered (answer round.found) (active_rows round.found) (A - l))
+    pub goes_on : k < 6 → round.sits_on_box ≡ true → Going T A n rows₀ flat' (bound ⊗ lp_box_growth) l (k + 1)
 
-  after : (r : Round) → Told T flat flat' bound left r → After r
-  after (Off found l) r = (
-    omega (arith, r.takes, g.enough),
-    leaves_with (first_ends T A (6 - k) left (rows_of flat) bound more g.enough r (inr refl)),
-  )
-  after (OnBox s l) r = (
-    omega (arith, r.takes, g.enough),
-    λ seventh. leaves_with (first_ends T A (6 - k) left (rows_of flat) bound more g.enough r (inl (omega arith))),
-    λ some.
-        let one_fewer : 6 - k ≡ suc (6 - (k + 1)) = omega arith in
-        let goes_on = first_goes_on T A (6 - (k + 1)) left (rows_of flat) bound more g.enough r refl in
-        record {
-          even = omega (arith, same, g.even);
-          few = omega arith;
-          enough = omega (arith, r.takes, g.enough);
-          again = refl;
-          rest = sym goes_on ∙ rw one_fewer at g.rest;
-        },
-  )
-  after Spent s = leaves_with (first_stops T A (6 - k) left (rows_of flat) bound more s)
+  abbrev pub After : Paid Round → Type 0
+  After (Ok p) = Turn p.0 p.1
+  After (Err e) = Ends (Err (Stopped A))
 
-  pub turn : {got r : Round} → got ≡ rounding T bound (within left (prepared mode (rows_of flat))) → got ≡ r → After r
-  turn {r} gave is =
-      let said = rw g.again at (sym is ∙ gave) in
-      let lent_again = rw g.again at lent in
-      after r (subst (Told T flat flat' bound left) (sym said) (told T flat flat' bound left _ refl lent_again))
+  after : (got : Paid Round) → Told T flat flat' bound left got → After got
+  after (Ok p) r =
+      record {
+        enough = omega (arith, r.takes, g.enough);
+        ends = λ h. leaves_with (first_ends T A (6 - k) left (rows_of flat) bound more g.enough r h);
+        goes_on = λ some on.
+            let one_fewer : 6 - k ≡ suc (6 - (k + 1)) = omega arith in
+            let goes_on = first_goes_on T A (6 - (k + 1)) left (rows_of flat) bound more g.enough r on in
+            record {
+              even = omega (arith, same, g.even);
+              few = omega arith;
+              enough = omega (arith, r.takes, g.enough);
+              rest = sym goes_on ∙ rw one_fewer at g.rest;
+            };
+      }
+  after (Err e) s = leaves_with (first_stops T A (6 - k) left (rows_of flat) bound more s)
+
+  pub turn : {got answer : Paid Round} → got ≡ within left (solving_once T T.normalize (rows_of flat) bound) → got ≡ answer → After answer
+  turn {got} gave is = subst After is (after got (told T flat flat' bound left lent got gave))

@@ -4,7 +4,7 @@ use mathlib.Core.Path.{◌≡◌, refl, ◌∙◌}
 use mathlib.Core.Bool.{Bool, true, false}
 use mathlib.Core.List.{List, [], ◌∷◌}
 use Prim.Native.Nat.{ℕ, zero, suc, ◌+◌, ◌-◌, ◌/◌, ◌≤◌, ◌<◌}
-use native.Mathlib.Decide.{ℕ_discrete}
+use mathlib.Core.Logic.{inl, inr}
 use native.Mathlib.Omega.{arith}
 use borrow.Author.Tests.{lt-ltb, le-ltb, ltb-true, ltb-false}
 use lib.Dec.{ltb}
@@ -18,9 +18,9 @@ use Rattle.rows.proofs.Written.{flat_rows}
 use Rattle.once.specs.declared.Normalize.TheVariants.{Off}
 use Rattle.once.specs.declared.Task.{Task}
 use Rattle.once.specs.Once.{Once, prepared, many, once}
-use Rattle.solve.specs.Solve.{Solves, last, ◌before◌, taken_by, rows_within, allowed, refusal_of, taken, solve}
+use Rattle.solve.specs.Solve.{Solves, last, ◌before◌, taken_by, rows_within, allowed, solve}
 use Rattle.solve.proofs.Refusals.{refusal_0}
-use Rattle.solve.proofs.Allowance.{refuses, takes}
+use Rattle.solve.proofs.Allowance.{whether, refuses, takes}
 use Rattle.solve.proofs.Growing.{first_of, rounds, allowed_keeps}
 
 -- ---- stopped
@@ -144,10 +144,10 @@ module _ (T : Task) (off : T.normalize ≡ Off) where
 
   pub solve_as_lent : (A : ℕ) (flat : List Float) → (solve T A flat).rows ≡ flat
   unfolding solve
-  solve_as_lent A flat = go (ℕ_discrete (refusal_of T flat) 0)
-    where
-      go : Dec (refusal_of T flat ≡ 0) → (taken T (allowed T A) flat).rows ≡ flat
-      go (yes fits) =
-          let even = (refusal_0 T flat).0 fits in
-          rw (takes T (allowed T A) flat fits, as_lent A (rows_of flat)) (flat_rows flat (length flat / 3) (omega arith))
-      go (no refused) = rw (refuses T (allowed T A) flat refused)
+  solve_as_lent A flat =
+      elim (whether T flat) [
+        | inl fits ↦
+            let even = (refusal_0 T flat).0 fits in
+            rw (takes T (allowed T A) flat fits, as_lent A (rows_of flat)) (flat_rows flat (length flat / 3) (omega arith))
+        | inr refused ↦ rw (refuses T (allowed T A) flat refused.1)
+      ]

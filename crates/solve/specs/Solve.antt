@@ -1,25 +1,24 @@
 -- `lp_2d_incre_max_y_core` and the entries above it, with refusals 1 to 3. Assumes nothing.
-use Rattle.std.specs.Prelude.{ℕ, zero, suc, ◌+◌, ◌-◌, List, ltb, eqb, length, Float}
+use Rattle.std.specs.Prelude.{ℕ, zero, suc, ◌+◌, ◌-◌, Option, Some, None, Result, Ok, Err, List, ltb, length, Float}
 use Rattle.std.specs.Float.{nan}
 use Rattle.std.specs.Float.Ieee.{is_nan}
 use Rattle.float.specs.Operators.{when◌then◌else◌, ◌⊗◌}
 use Rattle.rows.specs.Constants.{lp_bound, lp_box_growth, lp_box_growth_steps}
 use Rattle.rows.specs.declared.Row.{Row}
 use Rattle.rows.specs.declared.Point.{Point}
+use Rattle.rows.specs.declared.Refusal.{Refusal}
+use Rattle.rows.specs.Refusals as Refusals
 use Rattle.rows.specs.Rows.{rows_of, flat_of, refusal}
 use Rattle.active.specs.declared.Active.{Active}
 use Rattle.active.specs.Active.{no_rows}
-use Rattle.step.specs.declared.Found.{Found}
-use Rattle.step.specs.declared.Found.TheVariants.{Failed, Done}
-use Rattle.active.specs.declared.Collector.{Collector}
 use Rattle.active.specs.Collector.{collected}
 use Rattle.once.specs.declared.Task.{Task}
+use Rattle.step.specs.declared.State.{State}
 use Rattle.solve.specs.declared.Answer.{Answer}
 use Rattle.solve.specs.declared.Answer.TheVariants as AnswerIs
-use Rattle.solve.specs.declared.Outcome.{Outcome}
-use Rattle.solve.specs.declared.Outcome.TheVariants.{Answered, Stopped, Refused}
-use Rattle.solve.specs.declared.Solution.{Solution}
-use Rattle.solve.specs.declared.Solution.TheVariants as SolutionIs
+use Rattle.solve.specs.declared.Solved.{Solved}
+use Rattle.solve.specs.declared.Unsolved.{Unsolved}
+use Rattle.solve.specs.declared.Unsolved.TheVariants.{Stopped, Refused}
 use Rattle.once.specs.Once.{Once, once}
 
 infixr 30 ◌before◌
@@ -64,17 +63,24 @@ rows_within left rows (o before os) =
 -- ---- what comes back
 
 -- x and y, as a number each or NaN
-unfoldable pub answer : Found → Answer
-answer Failed = AnswerIs.Nothing
-answer (Done s) =
+unfoldable pub answer : Option State → Answer
+answer None = AnswerIs.Nothing
+answer (Some s) =
     let x = s.at.x in
     let y = s.at.y in
     when is_nan x then (when is_nan y then AnswerIs.Nothing else AnswerIs.Level y)
     else when is_nan y then AnswerIs.Across x else AnswerIs.Point x y
 
-unfoldable pub active_rows : Found → Active
-active_rows Failed = no_rows
-active_rows (Done s) = s.active
+unfoldable pub active_rows : Option State → Active
+active_rows None = no_rows
+active_rows (Some s) = s.active
+
+-- an answer with the active rows and the count, or why there is none
+abbrev pub Outcome : Type 0
+Outcome = Result Solved Unsolved
+
+abbrev pub Answered : Answer → Active → ℕ → Outcome
+Answered a act n = Ok (record { answer = a; active = act; count = n })
 
 -- what a call returns, and what it leaves in the lent rows
 pub record Ended (A : Type 0) : Type 0 where
@@ -94,19 +100,23 @@ unfoldable pub allowed : Task → ℕ → List Row → Ended (List Row)
 allowed T allowance rows =
     let all = all_solves T rows in
     let done = finished T rows in
-    when ltb allowance (count all) then record { outcome = Stopped allowance; rows = rows_within allowance rows all } else done
+    when ltb allowance (count all) then record { outcome = Err (Stopped allowance); rows = rows_within allowance rows all } else done
 
 -- ---- the entries, over rows that lie flat: refusals 1 and 2 leave everything as it was
 
--- which refusal a solve's input gets before a row is read, and 0 where it gets none
-unfoldable pub refusal_of : Task → List Float → ℕ
+-- which refusal a solve's input gets before a row is read
+unfoldable pub refusal_of : Task → List Float → Option Refusal
 refusal_of T flat = refusal 3 (length flat)
+
+-- a refusal, which leaves what is lent as it was; and where there is none, what a call comes to
+abbrev pub unless_refused : {A : Type 0} → Option Refusal → A → Ended A → Ended A
+unless_refused None rows e = e
+unless_refused (Some refusal) rows e = record { outcome = Err (Refused refusal); rows = rows }
 
 unfoldable pub taken : Task → (List Row → Ended (List Row)) → List Float → Ended (List Float)
 taken T solving flat =
-    let number = refusal_of T flat in
     let e = solving (rows_of flat) in
-    when eqb number 0 then record { outcome = e.outcome; rows = flat_of e.rows } else record { outcome = Refused number; rows = flat }
+    unless_refused (refusal_of T flat) flat (record { outcome = e.outcome; rows = flat_of e.rows })
 
 unfoldable pub solve : Task → ℕ → List Float → Ended (List Float)
 solve T allowance flat = taken T (allowed T allowance) flat
@@ -115,23 +125,25 @@ solve T allowance flat = taken T (allowed T allowance) flat
 unfoldable pub lp2d_incre_max_y : Task → List Float → Ended (List Float)
 lp2d_incre_max_y T flat = taken T (finished T) flat
 
-unfoldable pub silent : Outcome → Solution
-silent (Answered a act n) = SolutionIs.Answered a
-silent (Stopped n) = SolutionIs.Refused 3
-silent (Refused number) = SolutionIs.Refused number
+unfoldable pub silent : Outcome → Result Answer Unsolved
+silent (Ok got) = Ok got.answer
+silent (Err why) = Err why
 
 -- a caller's collector after a solve: cleared by refusal 3, and as it was after 1 and 2
-unfoldable pub collector : Collector → Outcome → Collector
-collector coll (Answered a act n) = collected coll act
-collector coll (Stopped n) = collected coll no_rows
-collector coll (Refused number) = coll
+unfoldable pub collector : Option Active → Outcome → Option Active
+collector coll (Ok got) = collected coll got.active
+collector coll (Err (Stopped count)) = collected coll no_rows
+collector coll (Err (Refused refusal)) = coll
 
--- ---- the paper's number of an outcome, 0 where it is an answer, and the values of an answer
+-- ---- the number of an outcome's refusal, 0 where it is an answer, and the values of an answer
+
+abbrev pub number_of : Unsolved → ℕ
+number_of (Stopped count) = 3
+number_of (Refused refusal) = Refusals.number refusal
 
 unfoldable pub number : Outcome → ℕ
-number (Answered a act n) = 0
-number (Stopped n) = 3
-number (Refused k) = k
+number (Ok got) = 0
+number (Err why) = number_of why
 
 unfoldable pub values : Answer → Point
 values (AnswerIs.Point x y) = record { x = x; y = y }

@@ -3,13 +3,13 @@
 
 ghost use Rattle.std.specs.Prelude.{◌≡◌, ◌*◌, ◌≤◌, length};
 ghost use Rattle.rows.specs.Rows.{rows_of, flat_of};
-ghost use Rattle.solve.specs.declared.Outcome.TheVariants.{Answered};
-ghost use Rattle.solve.specs.Solve.{answer, active_rows, allowed, refusal_of, solve, lp2d_incre_max_y, silent};
+ghost use Rattle.solve.specs.Solve.{Answered, number_of, answer, active_rows, allowed, refusal_of, solve, lp2d_incre_max_y, silent};
 
 use active::Active;
-use once::{Normalize, Round, Task};
-use rows::Point;
-use step::{Found, State};
+use once::Task;
+use readings::Spent;
+use rows::Refusal;
+use step::State;
 
 #[derive(Clone, Copy)]
 pub enum Answer {
@@ -19,29 +19,42 @@ pub enum Answer {
     Nothing,
 }
 
-// An answer with the active rows and the count; refusal 3 with its count, which is the allowance; or refusal 1 or 2.
+// An answer with the active rows and the count.
 #[derive(Clone, Copy)]
-pub enum Outcome {
-    Answered(Answer, Active, u64),
-    Stopped(u64),
-    Refused(u64),
+pub struct Solved {
+    pub answer: Answer,
+    pub active: Active,
+    pub count: u64,
 }
 
-// What the source's own entry answers; a refusal by its number.
-#[derive(Clone, Copy)]
-pub enum Solution {
-    Answered(Answer),
-    Refused(u64),
+// Why there is no answer: refusal 3 with its count, which is the allowance; or one before a row was read.
+#[derive(Clone, Copy, PartialEq, Eq)]
+pub enum Unsolved {
+    Stopped(u64),
+    Refused(Refusal),
 }
+
+impl From<Unsolved> for u64 {
+    ghost from_gives = { λ why n. n ≡ number_of why };
+
+    fn from(why: Unsolved) -> u64 {
+        match why {
+            Unsolved::Stopped(_) => 3,
+            Unsolved::Refused(refusal) => u64::from(refusal),
+        }
+    }
+}
+
+pub type Outcome = Result<Solved, Unsolved>;
 
 // ---- what comes back
 
-fn answer_of(found: Found) -> Answer
+fn answer_of(found: Option<State>) -> Answer
     ensures { result ≡ answer found }
 {
     match found {
-        Found::Failed => Answer::Nothing,
-        Found::Done(s) => {
+        None => Answer::Nothing,
+        Some(s) => {
             let p = s.at;
             if p.x != p.x {
                 if p.y != p.y {
@@ -57,21 +70,23 @@ fn answer_of(found: Found) -> Answer
     }
 }
 
-fn active_rows(found: Found) -> Active
+fn active_rows(found: Option<State>) -> Active
     ensures { result ≡ active_rows found }
 {
     match found {
-        Found::Failed => active::no_rows(),
-        Found::Done(s) => active::fresh(s.active),
+        None => active::no_rows(),
+        Some(s) => active::fresh(s.active),
     }
 }
 
-fn answered(found: Found, count: u64) -> Outcome
+fn answered(found: Option<State>, count: u64) -> Outcome
     ensures { result ≡ Answered (answer found) (active_rows found) count }
 {
-    let a = answer_of(found);
-    let act = active_rows(found);
-    Outcome::Answered(a, act, count)
+    Ok(Solved {
+        answer: answer_of(found),
+        active: active_rows(found),
+        count: count,
+    })
 }
 
 // ---- no row, one row, and more
@@ -83,10 +98,10 @@ fn few(rows: &[f64], n: usize, task: Task, allowance: u64) -> Outcome
     ensures lent { rows.now ≡ flat_of (allowed task allowance (rows_of rows.now)).rows }
 {
     if n == 0 {
-        return answered(Found::Failed, 0);
+        return answered(None, 0);
     }
     if allowance == 0 {
-        return Outcome::Stopped(0);
+        return Err(Unsolved::Stopped(0));
     }
     answered(once::lone(rows::row_at(rows, 0)), 1)
 }
@@ -98,30 +113,21 @@ fn many(rows: &mut [f64], n: usize, task: Task, allowance: u64) -> Outcome
     ensures answer { result ≡ (allowed task allowance (rows_of rows.old)).outcome }
     ensures lent { rows.new ≡ flat_of (allowed task allowance (rows_of rows.old)).rows }
 {
-    let mut mode = task.normalize;
     let mut bound = 1e6;
     let mut left = allowance;
-    let mut k = 0usize;
-    loop {
-        let got = once::solve_once(rows, n, task, mode, bound, left);
-        match got {
-            Round::Spent => {
-                return Outcome::Stopped(allowance);
-            }
-            Round::Off(found, over) => {
-                return answered(found, allowance - over);
-            }
-            Round::OnBox(s, over) => {
-                if k == 6 {
-                    return answered(Found::Done(s), allowance - over);
+    for k in 0..7u32 {
+        match once::solve_once(rows, n, task, task.normalize, bound, left) {
+            Err(Spent) => return Err(Unsolved::Stopped(allowance)),
+            Ok((round, over)) => {
+                if k == 6 || !round.sits_on_box {
+                    return answered(round.found, allowance - over);
                 }
                 left = over;
             }
         }
-        mode = task.normalize;
         bound = bound * 1e3;
-        k += 1;
     }
+    unreachable!()
 }
 
 // Any number of rows.
@@ -138,11 +144,11 @@ fn of_rows(rows: &mut [f64], n: usize, task: Task, allowance: u64) -> Outcome
 
 // ---- the entries
 
-// Which refusal the input of a solve gets before a row is read; 0 where it gets none.
-pub fn refusal_of(rows: &[f64], task: Task) -> u64
+// Which refusal the input of a solve gets before a row is read.
+pub fn refusal_of(rows: &[f64], task: Task) -> Option<Refusal>
     ensures { result ≡ refusal_of task rows.now }
 {
-    rows::refusal(3, rows.len())
+    rows::count(3, rows.len()).err()
 }
 
 // Public: the solve within an allowance, with the active rows and the count. Refusals 1 and 2 leave the lent rows as they
@@ -151,23 +157,17 @@ pub fn solve(rows: &mut [f64], task: Task, allowance: u64) -> Outcome
     ensures answer { result ≡ (solve task allowance rows.old).outcome }
     ensures lent { rows.new ≡ (solve task allowance rows.old).rows }
 {
-    let number = refusal_of(rows, task);
-    if number != 0 {
-        return Outcome::Refused(number);
+    match refusal_of(rows, task) {
+        Some(refusal) => Err(Unsolved::Refused(refusal)),
+        None => of_rows(rows, rows.len() / 3, task, allowance),
     }
-    let n = rows.len() / 3;
-    of_rows(rows, n, task, allowance)
 }
 
 // Public: the source's own entry, with no allowance and a silent collector.
-pub fn lp_2d_incre_max_y(rows: &mut [f64], task: Task) -> Solution
+pub fn lp_2d_incre_max_y(rows: &mut [f64], task: Task) -> Result<Answer, Unsolved>
     ensures answer { result ≡ silent (lp2d_incre_max_y task rows.old).outcome }
     ensures lent { rows.new ≡ (lp2d_incre_max_y task rows.old).rows }
 {
-    let outcome = solve(rows, task, 18446744073709551615);
-    match outcome {
-        Outcome::Answered(a, act, n) => Solution::Answered(a),
-        Outcome::Stopped(n) => Solution::Refused(3),
-        Outcome::Refused(number) => Solution::Refused(number),
-    }
+    let got = solve(rows, task, u64::MAX)?;
+    Ok(got.answer)
 }

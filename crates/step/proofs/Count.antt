@@ -1,4 +1,5 @@
 -- A step takes at most a reading for the row that it pins and one for each row before `upto`. Assumes nothing.
+use Rattle.std.specs.Prelude.{Option, Some, None}
 use mathlib.Core.List.{List}
 use Prim.Native.Nat.{ℕ, ◌+◌}
 use native.Mathlib.Nat.{le_of_eq}
@@ -9,18 +10,17 @@ use Rattle.rows.specs.declared.Row.{Row}
 use Rattle.line.proofs.Count.{lp1d_core_takes}
 use Rattle.step.specs.declared.Frame.{Frame}
 use Rattle.step.specs.declared.State.{State}
-use Rattle.step.specs.declared.Found.{Found}
-use Rattle.step.specs.declared.Found.TheVariants.{Failed, Done}
 use Rattle.step.specs.Step.{onward, ◌>>?◌, steep_step, flat_step, step}
 
 -- ---- one after the other
 
-onward_takes : {f : State → Counted Found} {x : ℕ} → ((s : State) → f s at_most x) → (found : Found) → onward f found at_most x
+onward_takes : {f : State → Counted (Option State)} {x : ℕ} → ((s : State) → f s at_most x) → (found : Option State) → onward f found at_most x
 unfolding onward
-onward_takes k Failed = pure_takes _
-onward_takes k (Done s) = k s
+onward_takes k None = pure_takes _
+onward_takes k (Some s) = k s
 
-pub bind?_takes : {m : Counted Found} {f : State → Counted Found} {x y : ℕ} → m at_most x → ((s : State) → f s at_most y) → (m >>? f) at_most x + y
+pub bind?_takes : {m : Counted (Option State)} {f : State → Counted (Option State)} {x y : ℕ} → m at_most x → ((s : State) → f s at_most y)
+    → (m >>? f) at_most x + y
 unfolding ◌>>?◌
 bind?_takes h k = bind_takes h (onward_takes k)
 

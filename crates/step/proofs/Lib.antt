@@ -1,5 +1,3 @@
-pub mod Answers
-pub mod Cases
 pub mod Rules
 pub mod Named
 pub mod Count

@@ -1,4 +1,5 @@
 -- Rows that are named are there: a step that pins a row below n against at most n rows, from active rows below n, ends with active rows below n.
+use Rattle.std.specs.Prelude.{Option, Some, None}
 use mathlib.Core.Bool.{true, false}
 use mathlib.Core.List.{List}
 use Prim.Native.Nat.{ℕ, ◌≤◌, ◌<◌}
@@ -9,36 +10,32 @@ use Rattle.readings.specs.Readings.{Counted}
 use Rattle.readings.proofs.Gives.{◌gives◌, either, pure_gives, read_gives, if_gives, bind_gives}
 use Rattle.rows.specs.declared.Row.{Row}
 use Rattle.line.specs.declared.Span.{Span}
-use Rattle.line.specs.declared.Narrowed.{Narrowed}
-use Rattle.line.specs.declared.Narrowed.TheVariants.{Empty, Kept}
 use Rattle.line.specs.Line.{whole_line}
 use Rattle.line.proofs.Named.{BothBelow, no_rows_below, set_first_below, set_second_below, SpanBelow, NarrowedBelow, lp1d_core_below}
 use Rattle.step.specs.declared.Frame.{Frame}
 use Rattle.step.specs.declared.State.{State}
-use Rattle.step.specs.declared.Found.{Found}
-use Rattle.step.specs.declared.Found.TheVariants.{Failed, Done}
 use Rattle.step.specs.declared.Chosen.{Chosen}
 use Rattle.step.specs.Step.{onward, ◌>>?◌, steep_end, steep_step, uncrossed, chosen, flat_end, flat_step, step}
 
 abbrev pub StateBelow : ℕ → State → Type 0
 StateBelow n s = BothBelow n s.active
 
-abbrev pub FoundBelow : ℕ → Found → Type 0
-FoundBelow n Failed = Unit {0}
-FoundBelow n (Done s) = StateBelow n s
+abbrev pub FoundBelow : ℕ → Option State → Type 0
+FoundBelow n None = Unit {0}
+FoundBelow n (Some s) = StateBelow n s
 
 abbrev ChosenBelow : ℕ → Chosen → Type 0
 ChosenBelow n c = BothBelow n c.active
 
 module _ {n : ℕ} where
   -- one after the other
-  onward_below : {f : State → Counted Found} → ((s : State) → StateBelow n s → f s gives FoundBelow n)
-      → (found : Found) → FoundBelow n found → onward f found gives FoundBelow n
+  onward_below : {f : State → Counted (Option State)} → ((s : State) → StateBelow n s → f s gives FoundBelow n)
+      → (found : Option State) → FoundBelow n found → onward f found gives FoundBelow n
   unfolding onward
-  onward_below k Failed below = pure_gives Failed tt
-  onward_below k (Done s) below = k s below
+  onward_below k None below = pure_gives None tt
+  onward_below k (Some s) below = k s below
 
-  pub bind?_below : {m : Counted Found} {f : State → Counted Found} → m gives FoundBelow n
+  pub bind?_below : {m : Counted (Option State)} {f : State → Counted (Option State)} → m gives FoundBelow n
       → ((s : State) → StateBelow n s → f s gives FoundBelow n) → (m >>? f) gives FoundBelow n
   unfolding ◌>>?◌
   bind?_below h k = bind_gives h (onward_below k)
@@ -63,10 +60,10 @@ module _ {n : ℕ} where
         (either (ChosenBelow n) _ first
         (either (ChosenBelow n) _ second (set_first_below i h no_rows_below))))
 
-    flat_end_below : (bound p q : Float) (w : Narrowed) → NarrowedBelow n w → FoundBelow n (flat_end bound p q i w)
+    flat_end_below : (bound p q : Float) (w : Option Span) → NarrowedBelow n w → FoundBelow n (flat_end bound p q i w)
     unfolding flat_end
-    flat_end_below bound p q Empty below = tt
-    flat_end_below bound p q (Kept s) below = chosen_below p bound s below
+    flat_end_below bound p q None below = tt
+    flat_end_below bound p q (Some s) below = chosen_below p bound s below
 
     -- the step
     module _ (F : Frame) (others : List Row) (few : length others ≤ n) (r : Row) (s : State) (below : StateBelow n s) where

@@ -1,5 +1,6 @@
 -- In the branch |a| <= |b| a reduction that came back (NaN, NaN) is not an infeasible step: x becomes the edge of the box or 0, and the
 -- step succeeds.
+use Rattle.std.specs.Prelude.{Some}
 use mathlib.Core.Path.{◌≡◌, refl, ap}
 use mathlib.Core.Bool.{true, false}
 use Prim.Native.Nat.{ℕ}
@@ -9,21 +10,19 @@ use Rattle.float.specs.Float.{zero, finite}
 use Rattle.float.proofs.Laws.{min_picks, max_picks}
 use Rattle.float.proofs.Order.{below_nan}
 use Rattle.line.specs.declared.Span.{Span}
-use Rattle.line.specs.declared.Narrowed.TheVariants.{Kept}
 use Rattle.active.specs.Active.{no_rows, set_first}
 use Rattle.line.specs.Line.{void}
-use Rattle.step.specs.declared.Found.TheVariants.{Done}
 use Rattle.step.specs.Step.{uncrossed, chosen, flat_end}
 
 -- NaN does not cross
-pub void-passes : (ε : Float) (s : Span) → uncrossed ε (void s) ≡ Kept (void s)
+pub void-passes : (ε : Float) (s : Span) → uncrossed ε (void s) ≡ Some (void s)
 unfolding uncrossed void when◌then◌else◌ lt
 void-passes ε s = refl
 
 module _ (bound p q ε : Float) (i : ℕ) (s : Span) where
   -- whatever the slope, the step is done
   pub void_succeeds : let c = chosen i p bound (void s) in
-      flat_end bound p q i (uncrossed ε (void s)) ≡ Done (record { at = record { x = c.x; y = p ⊗ c.x ⊖ q }; active = c.active })
+      flat_end bound p q i (uncrossed ε (void s)) ≡ Some (record { at = record { x = c.x; y = p ⊗ c.x ⊖ q }; active = c.active })
   unfolding flat_end
   void_succeeds = ap (flat_end bound p q i) (void-passes ε s)
 

@@ -1,44 +1,38 @@
 -- `incre_step_2d`. Assumes nothing.
-use Rattle.std.specs.Prelude.{ℕ, true, false, List, map, take, Float}
+use Rattle.std.specs.Prelude.{ℕ, Option, Some, None, true, false, List, map, take, Float}
 use Rattle.std.specs.Float.Ieee.{neg, is_nan}
 use Rattle.float.specs.Operators.{when◌then◌else◌, ◌⊕◌, ◌⊖◌, ◌⊗◌, ◌⊘◌, ◌≺◌, ◌≼◌, ◌≻◌}
 use Rattle.float.specs.Float.{zero, one, abs, finite, min, max}
-use Rattle.readings.specs.Readings.{Counted, pure, read, ◌>>=◌, ◌>>◌, Paid, paid, stopped}
+use Rattle.readings.specs.Readings.{Counted, pure, read, ◌>>=◌, ◌>>◌}
 use Rattle.rows.specs.Constants.{eps_rounding, half}
 use Rattle.rows.specs.declared.Row.{Row}
 use Rattle.rows.specs.Rows.{row_at, no_boundary}
 use Rattle.active.specs.Active.{no_rows, set_first, set_second}
 use Rattle.line.specs.declared.Span.{Span}
-use Rattle.line.specs.declared.Narrowed.{Narrowed}
-use Rattle.line.specs.declared.Narrowed.TheVariants.{Empty, Kept}
 use Rattle.line.specs.Line.{whole_line, lp1d_core, on_line}
 use Rattle.step.specs.declared.Frame.{Frame}
 use Rattle.step.specs.declared.State.{State}
-use Rattle.step.specs.declared.Found.{Found}
-use Rattle.step.specs.declared.Found.TheVariants.{Failed, Done}
 use Rattle.step.specs.declared.Chosen.{Chosen}
-use Rattle.step.specs.declared.Stepped.{Stepped}
-use Rattle.step.specs.declared.Stepped.TheVariants as SteppedIs
 
 infixl 10 ◌>>?◌
 -- ---- one after the other, the second only where the first found something
 
-unfoldable pub onward : (State → Counted Found) → Found → Counted Found
-onward f Failed = pure Failed
-onward f (Done s) = f s
+unfoldable pub onward : (State → Counted (Option State)) → Option State → Counted (Option State)
+onward f None = pure None
+onward f (Some s) = f s
 
-unfoldable pub ◌>>?◌ : Counted Found → (State → Counted Found) → Counted Found
+unfoldable pub ◌>>?◌ : Counted (Option State) → (State → Counted (Option State)) → Counted (Option State)
 m >>? f = m >>= onward f
 
 -- ---- a steep row, |a| > |b|: along x = p y - q
 
 -- the highest y, and not above the present one
-unfoldable pub steep_end : Float → Float → ℕ → State → Span → Found
+unfoldable pub steep_end : Float → Float → ℕ → State → Span → Option State
 steep_end p q i s t =
     let y = min t.high s.at.y in
-    when is_nan t.high then Failed else Done (record { at = record { x = p ⊗ y ⊖ q; y = y }; active = set_second i t.active })
+    when is_nan t.high then None else Some (record { at = record { x = p ⊗ y ⊖ q; y = y }; active = set_second i t.active })
 
-unfoldable pub steep_step : Frame → List Row → ℕ → Row → State → Counted Found
+unfoldable pub steep_step : Frame → List Row → ℕ → Row → State → Counted (Option State)
 steep_step F others i r s =
     let inverse = one ⊘ r.a in
     let p = neg r.b ⊗ inverse in
@@ -48,13 +42,13 @@ steep_step F others i r s =
 -- ---- a flat row, |a| ≤ |b| or a NaN: along y = p x - q
 
 -- Ends that cross within tolerance meet in the middle, and others leave nothing. NaN does not cross: a reduction that left no number passes.
-unfoldable pub uncrossed : Float → Span → Narrowed
+unfoldable pub uncrossed : Float → Span → Option Span
 uncrossed ε s =
     let middle = half ⊗ (s.high ⊕ s.low) in
     when s.high ≺ s.low then
-    (when s.low ⊖ s.high ≻ max ε (eps_rounding ⊗ (abs s.low ⊕ abs s.high)) then Empty
-    else Kept (record { high = middle; low = middle; active = s.active }))
-    else Kept s
+    (when s.low ⊖ s.high ≻ max ε (eps_rounding ⊗ (abs s.low ⊕ abs s.high)) then None
+    else Some (record { high = middle; low = middle; active = s.active }))
+    else Some s
 
 -- the x with the highest y, the box standing in for a missing end; on a level line the x nearest 0
 unfoldable pub chosen : ℕ → Float → Float → Span → Chosen
@@ -65,11 +59,11 @@ chosen i p bound s =
     else when s.high ≺ zero then record { x = s.high; active = set_second i s.active }
     else record { x = zero; active = set_first i no_rows }
 
-unfoldable pub flat_end : Float → Float → Float → ℕ → Narrowed → Found
-flat_end bound p q i Empty = Failed
-flat_end bound p q i (Kept s) = let c = chosen i p bound s in Done (record { at = record { x = c.x; y = p ⊗ c.x ⊖ q }; active = c.active })
+unfoldable pub flat_end : Float → Float → Float → ℕ → Option Span → Option State
+flat_end bound p q i None = None
+flat_end bound p q i (Some s) = let c = chosen i p bound s in Some (record { at = record { x = c.x; y = p ⊗ c.x ⊖ q }; active = c.active })
 
-unfoldable pub flat_step : Frame → List Row → ℕ → Row → State → Counted Found
+unfoldable pub flat_step : Frame → List Row → ℕ → Row → State → Counted (Option State)
 flat_step F others i r s =
     let inverse = one ⊘ r.b in
     let p = neg r.a ⊗ inverse in
@@ -80,15 +74,9 @@ flat_step F others i r s =
 -- ---- the step
 
 -- Row i is pinned against the rows before `upto`; it fails where that shows the rows to be infeasible.
-unfoldable pub step : List Row → Frame → ℕ → ℕ → State → Counted Found
+unfoldable pub step : List Row → Frame → ℕ → ℕ → State → Counted (Option State)
 step R F upto i s =
     let r = row_at R i in
     let others = take upto R in
-    read 1 >> (when no_boundary r then pure (when neg F.epsilon ≼ r.c then Done s else Failed)
+    read 1 >> (when no_boundary r then pure (when neg F.epsilon ≼ r.c then Some s else None)
     else when abs r.a ≻ abs r.b then steep_step F others i r s else flat_step F others i r s)
-
--- what the code gives back
-unfoldable pub stepped : Paid Found → Stepped
-stepped (paid (Done s) left) = SteppedIs.Done s left
-stepped (paid Failed left) = SteppedIs.Failed left
-stepped stopped = SteppedIs.Spent

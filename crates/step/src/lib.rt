@@ -2,12 +2,13 @@
 #![tactic(auto)]
 
 ghost use Rattle.std.specs.Prelude.{◌≡◌, ◌+◌, ◌*◌, ◌≤◌, ◌<◌, length, take};
-ghost use Rattle.readings.specs.Readings.{within, paid};
+ghost use Rattle.readings.specs.Readings.{within};
 ghost use Rattle.rows.specs.Rows.{rows_of};
-ghost use Rattle.step.specs.Step.{steep_end, steep_step, uncrossed, chosen, flat_end, flat_step, step, stepped};
+ghost use Rattle.step.specs.Step.{steep_end, steep_step, uncrossed, chosen, flat_end, flat_step, step};
 
 use active::Active;
-use line::{Narrowed, Reduced, Span};
+use line::Span;
+use readings::Paid;
 use rows::{Point, Row};
 
 // What a solve is posed over: half the width of the box, the tolerance of residuals, and that of reductions.
@@ -25,20 +26,6 @@ pub struct State {
     pub active: Active,
 }
 
-#[derive(Clone, Copy)]
-pub enum Found {
-    Failed,
-    Done(State),
-}
-
-// A state and the readings left; no state and the readings left; or too few were left.
-#[derive(Clone, Copy)]
-pub enum Stepped {
-    Done(State, u64),
-    Failed(u64),
-    Spent,
-}
-
 // An x on the pinned line with the rows that it rests on.
 #[derive(Clone, Copy)]
 pub struct Chosen {
@@ -51,85 +38,71 @@ pub struct Chosen {
 pub fn fresh(s: State) -> State
     ensures { result ≡ s }
 {
-    let at = s.at;
-    let act = s.active;
-    let x = at.x;
-    let y = float::settled(at.y);
-    let active = active::fresh(act);
+    let x = s.at.x;
+    let y = float::settled(s.at.y);
     State {
         at: Point { x: x, y: y },
-        active: active,
+        active: active::fresh(s.active),
     }
 }
 
 // ---- a steep row
 
-pub fn shown(found: Found, left: u64) -> Stepped
-    ensures { result ≡ stepped (paid found left) }
-{
-    match found {
-        Found::Failed => Stepped::Failed(left),
-        Found::Done(s) => Stepped::Done(s, left),
-    }
-}
-
 // The highest y on x = p*y - q, and not above the present one.
-fn steep_end(p: f64, q: f64, i: usize, s: State, t: Span) -> Found
+fn steep_end(p: f64, q: f64, i: usize, s: State, t: Span) -> Option<State>
     ensures { result ≡ steep_end p q i s t }
 {
-    let high = t.high;
-    let act = t.active;
-    let at = s.at;
-    if high != high {
-        return Found::Failed;
+    if t.high != t.high {
+        return None;
     }
-    let y = float::min(high, at.y);
-    let x = p * y - q;
-    let resting = active::set_second(i, act);
-    Found::Done(State {
-        at: Point { x: x, y: y },
-        active: resting,
+    let y = float::min(t.high, s.at.y);
+    Some(State {
+        at: Point { x: p * y - q, y: y },
+        active: active::set_second(i, t.active),
     })
 }
 
-fn steep_step(rows: &[f64], upto: usize, i: usize, r: Row, f: Frame, s: State, left: u64) -> Stepped
+fn steep_step(
+    rows: &[f64],
+    upto: usize,
+    i: usize,
+    r: Row,
+    f: Frame,
+    s: State,
+    left: u64,
+) -> Paid<Option<State>>
     requires { 3 * upto ≤ length rows.now }
-    ensures { result ≡ stepped (within left (steep_step f (take upto (rows_of rows.now)) i r s)) }
+    ensures { result ≡ within left (steep_step f (take upto (rows_of rows.now)) i r s) }
 {
     let inverse = 1.0 / r.a;
     let p = -r.b * inverse;
     let q = -r.c * inverse;
-    let act = s.active;
-    let got = line::lp_1d_core(rows, upto, true, p, q, f.reduced, act, left);
-    match got {
-        Reduced::Spent => Stepped::Spent,
-        Reduced::Done(t, rest) => shown(steep_end(p, q, i, s, t), rest),
-    }
+    let (t, rest) = line::lp_1d_core(rows, upto, true, p, q, f.reduced, s.active, left)?;
+    Ok((steep_end(p, q, i, s, t), rest))
 }
 
 // ---- a flat row
 
 // Ends that cross within tolerance meet in the middle, and others leave nothing. NaN does not cross: a reduction that
 // left no number passes.
-fn uncrossed(eps: f64, s: Span) -> Narrowed
+fn uncrossed(eps: f64, s: Span) -> Option<Span>
     ensures { result ≡ uncrossed eps s }
 {
     let high = s.high;
     let low = s.low;
-    let act = s.active;
     if high < low {
         let size = float::abs(low) + float::abs(high);
         if low - high > float::max(eps, 1e-13 * size) {
-            return Narrowed::Empty;
+            return None;
         }
         let middle = 0.5 * (high + low);
-        return Narrowed::Kept(Span {
+        return Some(Span {
             high: middle,
             low: middle,
-            active: act,
+            ..s
         });
     }
-    Narrowed::Kept(s)
+    Some(s)
 }
 
 // The x with the highest y on y = p*x - q, the box standing in for a missing end; on a level line the x nearest 0.
@@ -183,37 +156,36 @@ fn choose(i: usize, p: f64, bound: f64, s: Span) -> Chosen
     }
 }
 
-fn flat_end(bound: f64, p: f64, q: f64, i: usize, n: Narrowed) -> Found
-    ensures { result ≡ flat_end bound p q i n }
+fn flat_end(bound: f64, p: f64, q: f64, i: usize, left: Option<Span>) -> Option<State>
+    ensures { result ≡ flat_end bound p q i left }
 {
-    match n {
-        Narrowed::Empty => Found::Failed,
-        Narrowed::Kept(s) => {
-            let c = choose(i, p, bound, s);
-            let x = c.x;
-            let resting = c.active;
-            let y = p * x - q;
-            Found::Done(State {
-                at: Point { x: x, y: y },
-                active: resting,
-            })
-        }
-    }
+    let c = choose(i, p, bound, left?);
+    Some(State {
+        at: Point {
+            x: c.x,
+            y: p * c.x - q,
+        },
+        active: c.active,
+    })
 }
 
-fn flat_step(rows: &[f64], upto: usize, i: usize, r: Row, f: Frame, s: State, left: u64) -> Stepped
+fn flat_step(
+    rows: &[f64],
+    upto: usize,
+    i: usize,
+    r: Row,
+    f: Frame,
+    s: State,
+    left: u64,
+) -> Paid<Option<State>>
     requires { 3 * upto ≤ length rows.now }
-    ensures { result ≡ stepped (within left (flat_step f (take upto (rows_of rows.now)) i r s)) }
+    ensures { result ≡ within left (flat_step f (take upto (rows_of rows.now)) i r s) }
 {
     let inverse = 1.0 / r.b;
     let p = -r.a * inverse;
     let q = -r.c * inverse;
-    let act = s.active;
-    let got = line::lp_1d_core(rows, upto, false, p, q, f.reduced, act, left);
-    match got {
-        Reduced::Spent => Stepped::Spent,
-        Reduced::Done(t, rest) => shown(flat_end(f.bound, p, q, i, uncrossed(f.epsilon, t)), rest),
-    }
+    let (t, rest) = line::lp_1d_core(rows, upto, false, p, q, f.reduced, s.active, left)?;
+    Ok((flat_end(f.bound, p, q, i, uncrossed(f.epsilon, t)), rest))
 }
 
 // ---- the step
@@ -226,20 +198,17 @@ pub fn incre_step_2d(
     f: Frame,
     s: State,
     left: u64,
-) -> Stepped
+) -> Paid<Option<State>>
     requires { (3 * upto ≤ length rows.now) × (3 * row + 2 < length rows.now) }
-    ensures { result ≡ stepped (within left (step (rows_of rows.now) f upto row s)) }
+    ensures { result ≡ within left (step (rows_of rows.now) f upto row s) }
 {
-    if left == 0 {
-        return Stepped::Spent;
-    }
-    let rest = left - 1;
+    let rest = readings::pay(left, 1)?;
     let r = rows::row_at(rows, row);
     if rows::no_boundary(r) {
         if r.c >= -f.epsilon {
-            return Stepped::Done(s, rest);
+            return Ok((Some(s), rest));
         }
-        return Stepped::Failed(rest);
+        return Ok((None, rest));
     }
     if float::abs(r.a) > float::abs(r.b) {
         return steep_step(rows, upto, row, r, f, s, rest);

@@ -4,12 +4,10 @@ use Prim.Native.Nat.{ℕ, ◌≤◌}
 use native.Mathlib.Omega.{arith}
 use lib.Ieee.{Float, binary64, to_bits}
 use lib.ListN.{length, length-append}
-use Rattle.active.specs.declared.Slot.{Slot}
-use Rattle.active.specs.declared.Slot.TheVariants.{NoRow, Holds}
+use Rattle.std.specs.Prelude.{Option, Some, None, Ok, Err}
 use Rattle.solve.specs.declared.Answer.{Answer}
 use Rattle.solve.specs.declared.Answer.TheVariants.{Point, Level, Across, Nothing}
-use Rattle.solve.specs.declared.Outcome.{Outcome}
-use Rattle.solve.specs.declared.Outcome.TheVariants.{Answered, Stopped, Refused}
+use Rattle.solve.specs.Solve.{Outcome, number_of}
 use Rattle.text.specs.Sizes.{longest_number, longest_float, longest_answer, longest_refusal, longest_outcome}
 use Rattle.text.specs.Lines.{point_word, level_word, across_word, nothing_word, refused_word, number_word, float_word, slot_word}
 use Rattle.text.specs.Lines.{answer_words, refusal_words, outcome_words}
@@ -24,10 +22,10 @@ pub float-length : (x : Float) → length (float_word x) ≡ longest_float
 unfolding float_word longest_float
 float-length x = omega (arith, hex-length (to_bits binary64 x))
 
-pub slot-length : (s : Slot) → length (slot_word s) ≤ longest_number
+pub slot-length : (s : Option ℕ) → length (slot_word s) ≤ longest_number
 unfolding slot_word longest_number
-slot-length NoRow = omega arith
-slot-length (Holds k) = number-length k
+slot-length None = omega arith
+slot-length (Some k) = number-length k
 
 pub answer-length : (a : Answer) → length (answer_words a) ≤ longest_answer
 unfolding answer_words point_word level_word across_word nothing_word longest_answer
@@ -42,6 +40,7 @@ refusal-length k = simp length-append (omega (arith, number-length k))
 
 pub outcome-length : (got : Outcome) → length (outcome_words got) ≤ longest_outcome
 unfolding outcome_words longest_outcome longest_refusal
-outcome-length (Answered a act n) = simp length-append (omega (arith, answer-length a, slot-length act.first, slot-length act.second, number-length n))
-outcome-length (Stopped n) = omega (arith, refusal-length 3)
-outcome-length (Refused k) = omega (arith, refusal-length k)
+outcome-length (Ok got) =
+    let act = got.active in
+    simp length-append (omega (arith, answer-length got.answer, slot-length act.first, slot-length act.second, number-length got.count))
+outcome-length (Err why) = omega (arith, refusal-length (number_of why))

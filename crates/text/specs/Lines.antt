@@ -1,13 +1,10 @@
 -- The lines that `rowrun` prints. Assumes nothing.
-use Rattle.std.specs.Prelude.{ℕ, List, [], ◌∷◌, ◌++◌, Float}
+use Rattle.std.specs.Prelude.{ℕ, Option, Some, None, Ok, Err, List, [], ◌∷◌, ◌++◌, Float}
 use Rattle.std.specs.Float.{binary64}
 use Rattle.std.specs.Float.Ieee.{to_bits}
-use Rattle.active.specs.declared.Slot.{Slot}
-use Rattle.active.specs.declared.Slot.TheVariants.{NoRow, Holds}
 use Rattle.solve.specs.declared.Answer.{Answer}
 use Rattle.solve.specs.declared.Answer.TheVariants.{Point, Level, Across, Nothing}
-use Rattle.solve.specs.declared.Outcome.{Outcome}
-use Rattle.solve.specs.declared.Outcome.TheVariants.{Answered, Stopped, Refused}
+use Rattle.solve.specs.Solve.{Outcome, number_of}
 use Rattle.text.specs.Text.{decimal, hex}
 
 -- ---- words, each with the blank before it
@@ -40,9 +37,9 @@ unfoldable pub float_word : Float → List ℕ
 float_word x = 32 ∷ hex (to_bits binary64 x)
 
 -- no row is a dash
-unfoldable pub slot_word : Slot → List ℕ
-slot_word NoRow = 32 ∷ 45 ∷ []
-slot_word (Holds k) = number_word k
+unfoldable pub slot_word : Option ℕ → List ℕ
+slot_word None = 32 ∷ 45 ∷ []
+slot_word (Some k) = number_word k
 
 -- ---- lines
 
@@ -56,13 +53,12 @@ unfoldable pub refusal_words : ℕ → List ℕ
 refusal_words k = refused_word ++ number_word k
 
 unfoldable pub outcome_words : Outcome → List ℕ
-outcome_words (Answered a act n) = answer_words a ++ slot_word act.first ++ slot_word act.second ++ number_word n
-outcome_words (Stopped n) = refusal_words 3
-outcome_words (Refused k) = refusal_words k
+outcome_words (Ok got) = answer_words got.answer ++ slot_word got.active.first ++ slot_word got.active.second ++ number_word got.count
+outcome_words (Err why) = refusal_words (number_of why)
 
--- record `number` and its outcome
+-- record k and its outcome
 unfoldable pub outcome_line : ℕ → Outcome → List ℕ
-outcome_line number got = decimal number ++ outcome_words got ++ 10 ∷ []
+outcome_line k got = decimal k ++ outcome_words got ++ 10 ∷ []
 
 -- `end` and the number of lines before it
 unfoldable pub end_line : ℕ → List ℕ

@@ -7,7 +7,6 @@ ghost use Rattle.text.specs.Text.{written, decimal, hex};
 ghost use Rattle.text.specs.Text.{glyph as Text·glyph};
 ghost use Rattle.text.specs.Lines.{number_word, float_word, slot_word, answer_words, refusal_words, outcome_words, outcome_line, end_line};
 
-use active::Slot;
 use solve::{Answer, Outcome};
 
 // The decimal digits of a number below 2^64, at most.
@@ -26,12 +25,9 @@ pub fn put(out: &mut [u8], at: usize, text: &[u8]) -> usize
     ensures end { result ≡ at + length text.now }
     ensures out { out.new ≡ written out.old at text.now }
 {
-    let mut i = 0;
-    while i < text.len() {
-        out[at + i] = text[i];
-        i += 1;
-    }
-    at + i
+    let end = at + text.len();
+    out[at..end].copy_from_slice(text);
+    end
 }
 
 fn glyph(d: u64) -> u8
@@ -47,13 +43,11 @@ fn put_hex(out: &mut [u8], at: usize, n: u64) -> usize
     ensures out { out.new ≡ written out.old at (hex n) }
 {
     let mut rest = n;
-    let mut i = 0usize;
-    while i < 16 {
+    for i in 0..16 {
         out[at + i] = glyph(rest / 0x1000_0000_0000_0000);
         rest = rest % 0x1000_0000_0000_0000 * 16;
-        i += 1;
     }
-    at + i
+    at + 16
 }
 
 // A tenth of a number of two halves of 32 bits each, rounded down. Where the upper half is 10 * p + r and the lower 10 * q + s, the number is
@@ -77,7 +71,8 @@ fn tenth(n: u64) -> u64
     tenth_of_halves((n >> 32) as u32, low)
 }
 
-// Puts the decimal digits of n at the end of `digits`, and answers where they begin.
+// Puts the decimal digits of n at the end of `digits`, and answers where they begin. (A `for` over the places, from the last to the
+// first, would be no plainer: it would need an answer for n with more digits than places, which never comes.)
 fn spell(n: u64, digits: &mut [u8]) -> usize
     requires { length digits.old ≡ longest_decimal }
     ensures begin { result < longest_decimal }
@@ -85,6 +80,7 @@ fn spell(n: u64, digits: &mut [u8]) -> usize
 {
     let mut rest = n;
     let mut at = DIGITS - 1;
+    // No `for`: it ends where the number does, and the places go down.
     while rest > 9 {
         let next = tenth(rest);
         digits[at] = 48 + (rest - 10 * next) as u8;
@@ -95,6 +91,7 @@ fn spell(n: u64, digits: &mut [u8]) -> usize
     at
 }
 
+#[tactic(auto, unfolding(crate::specs::Sizes::longest_decimal))]
 fn put_decimal(out: &mut [u8], at: usize, n: u64) -> usize
     requires { at + longest_decimal ≤ length out.old }
     ensures end { result ≡ at + length (decimal n) }
@@ -109,6 +106,7 @@ fn put_decimal(out: &mut [u8], at: usize, n: u64) -> usize
 
 // ---- words, each with the blank before it
 
+#[tactic(auto, unfolding(crate::specs::Sizes::longest_number))]
 fn put_number(out: &mut [u8], at: usize, n: u64) -> usize
     requires { at + longest_number ≤ length out.old }
     ensures end { result ≡ at + length (number_word n) }
@@ -118,6 +116,7 @@ fn put_number(out: &mut [u8], at: usize, n: u64) -> usize
     put_decimal(out, digits, n)
 }
 
+#[tactic(auto, unfolding(crate::specs::Sizes::longest_float))]
 fn put_float(out: &mut [u8], at: usize, x: f64) -> usize
     requires { at + longest_float ≤ length out.old }
     ensures end { result ≡ at + length (float_word x) }
@@ -127,17 +126,19 @@ fn put_float(out: &mut [u8], at: usize, x: f64) -> usize
     put_hex(out, digits, float::bits_of(x))
 }
 
-fn put_slot(out: &mut [u8], at: usize, slot: Slot) -> usize
+#[tactic(auto, unfolding(crate::specs::Sizes::longest_number, crate::specs::Lines::slot_word))]
+fn put_slot(out: &mut [u8], at: usize, slot: Option<usize>) -> usize
     requires { at + longest_number ≤ length out.old }
     ensures end { result ≡ at + length (slot_word slot) }
     ensures out { out.new ≡ written out.old at (slot_word slot) }
 {
     match slot {
-        Slot::NoRow => put(out, at, b" -"),
-        Slot::Holds(k) => put_number(out, at, k as u64),
+        None => put(out, at, b" -"),
+        Some(k) => put_number(out, at, k as u64),
     }
 }
 
+#[tactic(auto, unfolding(crate::specs::Sizes::longest_answer))]
 fn put_answer(out: &mut [u8], at: usize, a: Answer) -> usize
     requires { at + longest_answer ≤ length out.old }
     ensures end { result ≡ at + length (answer_words a) }
@@ -161,6 +162,7 @@ fn put_answer(out: &mut [u8], at: usize, a: Answer) -> usize
     }
 }
 
+#[tactic(auto, unfolding(crate::specs::Sizes::longest_refusal))]
 fn put_refusal(out: &mut [u8], at: usize, k: u64) -> usize
     requires { at + longest_refusal ≤ length out.old }
     ensures end { result ≡ at + length (refusal_words k) }
@@ -170,27 +172,26 @@ fn put_refusal(out: &mut [u8], at: usize, k: u64) -> usize
     put_number(out, word, k)
 }
 
+#[tactic(auto, unfolding(crate::specs::Lines::outcome_words, crate::specs::Sizes::longest_outcome, crate::specs::Sizes::longest_refusal))]
 fn put_outcome(out: &mut [u8], at: usize, got: Outcome) -> usize
     requires { at + longest_outcome ≤ length out.old }
     ensures end { result ≡ at + length (outcome_words got) }
     ensures out { out.new ≡ written out.old at (outcome_words got) }
 {
     match got {
-        Outcome::Refused(k) => put_refusal(out, at, k),
-        Outcome::Stopped(n) => put_refusal(out, at, 3),
-        Outcome::Answered(a, act, n) => {
-            let one = act.first;
-            let other = act.second;
-            let words = put_answer(out, at, a);
-            let first = put_slot(out, words, one);
-            let second = put_slot(out, first, other);
-            put_number(out, second, n)
+        Err(why) => put_refusal(out, at, u64::from(why)),
+        Ok(solved) => {
+            let words = put_answer(out, at, solved.answer);
+            let first = put_slot(out, words, solved.active.first);
+            let second = put_slot(out, first, solved.active.second);
+            put_number(out, second, solved.count)
         }
     }
 }
 
 // ---- lines
 
+#[tactic(auto, unfolding(crate::specs::Sizes::longest_line))]
 pub fn put_line(out: &mut [u8], at: usize, number: u64, got: Outcome) -> usize
     requires { at + longest_line ≤ length out.old }
     ensures end { result ≡ at + length (outcome_line number got) }
@@ -201,6 +202,7 @@ pub fn put_line(out: &mut [u8], at: usize, number: u64, got: Outcome) -> usize
     put(out, words, b"\n")
 }
 
+#[tactic(auto, unfolding(crate::specs::Sizes::longest_end))]
 pub fn put_end(out: &mut [u8], at: usize, lines: u64) -> usize
     requires { at + longest_end ≤ length out.old }
     ensures end { result ≡ at + length (end_line lines) }

@@ -1,174 +1,144 @@
 // Lines of test vectors: words parted by a blank each, a float as the 16 hex digits of its bits, and what is expected behind the word `=`.
-// A position past the end of the text is one at which nothing stands.
 #![tactic(auto)]
 
-ghost use Rattle.std.specs.Prelude.{◌≡◌, ◌≤◌, ◌<◌, length, take};
+ghost use Rattle.std.specs.Prelude.{◌≤◌, ◌<◌, length, IfOk};
+ghost use Rattle.std.specs.Iterator.{at_most};
 
 use std::io;
+use std::io::{ErrorKind, Read};
 
-#[derive(Clone, Copy)]
-enum Bits {
-    Of(u64),
-    Nothing,
+// What a hex digit stands for; its letters are capitals.
+fn digit(byte: u8) -> Option<u64> {
+    match byte {
+        b'0'..=b'9' => Some(u64::from(byte - b'0')),
+        b'A'..=b'F' => Some(u64::from(byte - b'A') + 10),
+        _ => None,
+    }
 }
 
-// Floats that were read, and the position of the word behind the `=` behind them.
-#[derive(Clone, Copy)]
-pub struct Floats {
-    pub count: usize,
-    pub at: usize,
-}
-
-fn wide(byte: u8) -> u64 {
-    byte as u64
-}
-
-// What a hex digit stands for; 16 for another byte.
-fn digit(byte: u8) -> u64 {
-    if byte < b'0' {
-        return 16;
-    }
-    if byte <= b'9' {
-        return wide(byte - b'0');
-    }
-    if byte < b'A' {
-        return 16;
-    }
-    if byte <= b'F' {
-        return wide(byte - b'A' + 10);
-    }
-    16
-}
-
-// The number of the 16 hex digits at `at`.
-fn bits_at(text: &[u8], at: usize) -> Bits {
-    let mut value = 0u64;
-    let mut k = at;
-    let mut i = 0usize;
-    while i < 16 {
-        if k >= text.len() {
-            return Bits::Nothing;
-        }
-        let d = digit(text[k]);
-        if d > 15 {
-            return Bits::Nothing;
-        }
-        value = value << 4 | d;
-        k += 1;
-        i += 1;
-    }
-    Bits::Of(value)
-}
-
-// A decimal number, of up to 18 digits; another word, as the `-` of no row, is nothing.
-#[derive(Clone, Copy)]
-pub enum Number {
-    Of(u64),
-    Nothing,
-}
-
-// The decimal number at `at`, up to a blank or the line's end.
-pub fn number_at(text: &[u8], at: usize) -> Number {
-    let mut value = 0u64;
-    let mut k = at;
-    while k < text.len() {
-        let d = digit(text[k]);
-        if d > 9 {
-            break;
-        }
-        if value >= 100_000_000_000_000_000 {
-            return Number::Nothing;
-        }
-        value = value * 10 + d;
-        k += 1;
-    }
-    if k == at {
-        return Number::Nothing;
-    }
-    Number::Of(value)
-}
-
-// Whether the text goes on with these bytes.
-pub fn starts(text: &[u8], at: usize, bytes: &[u8]) -> bool {
-    let mut k = at;
-    let mut i = 0;
-    while i < bytes.len() {
-        if k >= text.len() {
-            return false;
-        }
-        if text[k] != bytes[i] {
-            return false;
-        }
-        k += 1;
-        i += 1;
-    }
-    true
-}
-
-// The position behind the first byte from `at` on that is `end` or below it: a blank ends a word, and a newline, which is below it, a word and a line.
-pub fn past(text: &[u8], at: usize, end: u8) -> usize
-    ensures { at < length text.now → at < result }
+// What stands behind the first byte that is `end` or below it: a blank ends a word, and a newline, which is below it, a word and a line.
+fn behind(text: &[u8], end: u8) -> &[u8]
+    ensures { 0 < length text.now → length result.now < length text.now }
 {
-    let mut k = at;
-    while k < text.len() {
-        if text[k] <= end {
-            return k + 1;
-        }
-        k += 1;
-    }
-    k
-}
-
-// Reads floats, as many as stand there and `out` holds. What it ensures of their number n is what a caller's `&mut out[..n]` asks.
-pub fn read_floats(text: &[u8], at: usize, out: &mut [f64]) -> Floats
-    ensures { (result.count ≤ length out.new) × (result.count ≡ length (take result.count out.new)) }
-{
-    let mut from = at;
-    let mut k = 0;
-    while k < out.len() {
-        let word = bits_at(text, from);
-        match word {
-            Bits::Nothing => {
-                let behind = past(text, from, b' ');
-                return Floats {
-                    count: k,
-                    at: behind,
-                };
-            }
-            Bits::Of(n) => {
-                out[k] = float::float_of(n);
-                from = past(text, from, b' ');
-                k += 1;
-            }
-        }
-    }
-    let behind = past(text, from, b' ');
-    Floats {
-        count: k,
-        at: behind,
+    match text.iter().position(|byte| *byte <= end) {
+        Some(k) => &text[k + 1..],
+        None => &[],
     }
 }
 
-// Whether these floats are expected from `at` on, bit by bit.
-pub fn expected(text: &[u8], at: usize, floats: &[f64]) -> bool {
-    let mut from = at;
-    let mut k = 0;
-    while k < floats.len() {
-        let word = bits_at(text, from);
-        match word {
-            Bits::Nothing => {
+// What is left to read of a text.
+#[derive(Clone, Copy)]
+pub struct Words<'a> {
+    rest: &'a [u8],
+}
+
+impl<'a> Words<'a> {
+    // Whether the text goes on with these bytes.
+    pub fn begin_with(self, bytes: &[u8]) -> bool {
+        self.rest.starts_with(bytes)
+    }
+
+    // What is left behind so many words.
+    pub fn skip(self, count: usize) -> Words<'a> {
+        let mut rest = self.rest;
+        for _ in 0..count {
+            rest = behind(rest, b' ');
+        }
+        Words { rest }
+    }
+
+    // The bits of the next float.
+    fn bits(self) -> Option<u64> {
+        let mut value = 0u64;
+        for byte in self.rest.first_chunk::<16>()? {
+            value = value << 4 | digit(*byte)?;
+        }
+        Some(value)
+    }
+
+    // The next decimal number, of up to 18 digits; another word, as the `-` of no row, is none.
+    pub fn number(self) -> Option<u64> {
+        let mut value = None;
+        for byte in self.rest {
+            if !byte.is_ascii_digit() {
+                break;
+            }
+            let before = value.unwrap_or(0);
+            if before >= 100_000_000_000_000_000 {
+                return None;
+            }
+            value = Some(before * 10 + u64::from(*byte - b'0'));
+        }
+        value
+    }
+
+    // Whether these floats are next, bit by bit.
+    pub fn are(self, floats: &[f64]) -> bool {
+        let mut words = self;
+        for x in floats {
+            if words.bits() != Some(float::bits_of(*x)) {
                 return false;
             }
-            Bits::Of(n) => {
-                if n != float::bits_of(floats[k]) {
-                    return false;
+            words = words.skip(1);
+        }
+        true
+    }
+
+    // Reads floats, as many as stand there and `out` holds. Answers those that it read, and what is left behind the word that follows them,
+    // as a `=`.
+    pub fn read_floats<'b>(self, out: &'b mut [f64]) -> (&'b mut [f64], Words<'a>)
+        ensures { length result.0.now ≤ length out.old }
+    {
+        let mut words = self;
+        let mut count = 0;
+        for place in out.iter_mut() {
+            let Some(bits) = words.bits() else {
+                break;
+            };
+            *place = float::float_of(bits);
+            words = words.skip(1);
+            count += 1;
+        }
+        (&mut out[..count], words.skip(1))
+    }
+}
+
+// Goes over the lines of a text. Each is given with what follows it.
+#[derive(Drop)]
+pub struct Lines<'a>(pub &'a [u8]);
+
+impl<'a> Iterator for Lines<'a> {
+    type Item = Words<'a>;
+
+    ghost remaining = { λ s. at_most (length s.0.now) };
+
+    fn next(&mut self) -> Option<Words<'a>> {
+        let rest = self.0;
+        if rest.is_empty() {
+            return None;
+        }
+        self.0 = behind(rest, b'\n');
+        Some(Words { rest })
+    }
+}
+
+// Reads until `bytes` is full or the input ends, and answers how many it put at its start. A read that a signal interrupts is made again.
+pub fn read_full(input: &mut impl Read, bytes: &mut [u8]) -> io::Result<usize>
+    ensures { IfOk result (λ n. n ≤ length bytes.new) }
+{
+    let mut done = 0;
+    for _ in 0..u64::MAX {
+        match input.read(&mut bytes[done..]) {
+            Ok(0) => break,
+            Ok(n) => done += n,
+            Err(error) => {
+                if error.kind() != ErrorKind::Interrupted {
+                    return Err(error);
                 }
-                from = past(text, from, b' ');
-                k += 1;
             }
         }
     }
-    true
+    Ok(done)
 }
 
 // Writes how many of the lines came out right.

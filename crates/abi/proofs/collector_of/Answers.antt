@@ -4,4 +4,4 @@ use Rattle.abi.proofs.collector_of.Goals as goal
 
 pub returns : goal.returns
 unfolding collector
-returns c = rw (c.slot_of-one.ensures, c.slot_of-other.ensures)
+returns c = rw (c.slot_of.ensures, c.slot_of-2.ensures)

@@ -1,11 +1,13 @@
 -- `abi::has_row` meets its contract.
+use Rattle.std.proofs.Common.{◌≡◌, refl, ℕ, Option, Some, None}
+use Rattle.std.specs.Prelude.{is_some}
 use Rattle.abi.specs.Records.{has_row}
 use Rattle.abi.proofs.has_row.Goals as goal
 
-pub returns-in-NoRow : goal.returns-in-NoRow
+by_cases : (found : Option ℕ) → is_some found ≡ has_row found
 unfolding has_row
-returns-in-NoRow c = simp c.in-NoRow.is
+by_cases None = refl
+by_cases (Some k) = refl
 
-pub returns-in-Holds : goal.returns-in-Holds
-unfolding has_row
-returns-in-Holds c = simp c.in-Holds.is
+pub returns : goal.returns
+returns c = rw c.is_some.ensures (by_cases c.args.found)

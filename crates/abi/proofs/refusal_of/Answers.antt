@@ -4,4 +4,4 @@ use Rattle.abi.proofs.refusal_of.Goals as goal
 
 pub returns : goal.returns
 unfolding refusal_of
-returns c = rw (← c.task_of.ensures, ← c.refusal_of.ensures) c.or_ten.ensures
+returns c = rw (c.or_ten.ensures, c.refusal_of.ensures, c.task_of.ensures)

@@ -1,11 +1,13 @@
 -- `abi::row_number` meets its contract.
+use Rattle.std.proofs.Common.{◌≡◌, refl, ℕ, Option, Some, None}
+use Rattle.std.specs.Prelude.{unwrap_or}
 use Rattle.abi.specs.Records.{row_number}
 use Rattle.abi.proofs.row_number.Goals as goal
 
-pub returns-in-NoRow : goal.returns-in-NoRow
+by_cases : (found : Option ℕ) → unwrap_or found 0 ≡ row_number found
 unfolding row_number
-returns-in-NoRow c = rw c.in-NoRow.is
+by_cases None = refl
+by_cases (Some k) = refl
 
-pub returns-in-Holds : goal.returns-in-Holds
-unfolding row_number
-returns-in-Holds c = rw c.in-Holds.is
+pub returns : goal.returns
+returns c = rw c.unwrap_or.ensures (by_cases c.args.found)

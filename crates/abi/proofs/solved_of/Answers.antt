@@ -2,14 +2,18 @@
 use Rattle.abi.specs.Records.{solved}
 use Rattle.abi.proofs.solved_of.Goals as goal
 
-pub returns-in-Answered : goal.returns-in-Answered
+pub returns-in-Ok : goal.returns-in-Ok
 unfolding solved
-returns-in-Answered c = rw (c.in-Answered.is, ← c.answered.ensures) c.with_rows.ensures
+returns-in-Ok c = simp (c.in-Ok.is, ← c.answered.ensures, ← c.with_rows.ensures)
 
-pub returns-in-Stopped : goal.returns-in-Stopped
+pub returns-in-Err-Stopped : goal.returns-in-Err-Stopped
 unfolding solved
-returns-in-Stopped c = rw c.in-Stopped.is c.unsolved.ensures
+returns-in-Err-Stopped c =
+    let stopped = rw c.in-Err-Stopped.is at c.in-Err-Stopped.field-0-is in
+    rw (c.in-Err-Stopped.is, stopped) c.unsolved.ensures
 
-pub returns-in-Refused : goal.returns-in-Refused
+pub returns-in-Err-Refused : goal.returns-in-Err-Refused
 unfolding solved
-returns-in-Refused c = rw c.in-Refused.is c.unsolved-in-Refused.ensures
+returns-in-Err-Refused c =
+    let refused = rw c.in-Err-Refused.is at c.in-Err-Refused.field-0-is in
+    rw (c.in-Err-Refused.is, refused, ← c.from.ensures) c.unsolved-in-Err-Refused.ensures

@@ -2,10 +2,10 @@
 use Rattle.abi.specs.Records.{source}
 use Rattle.abi.proofs.source_of.Goals as goal
 
-pub returns-in-Answered : goal.returns-in-Answered
+pub returns-in-Ok : goal.returns-in-Ok
 unfolding source
-returns-in-Answered c = rw c.in-Answered.is c.answered.ensures
+returns-in-Ok c = simp (c.in-Ok.is, ← c.answered.ensures)
 
-pub returns-in-Refused : goal.returns-in-Refused
+pub returns-in-Err : goal.returns-in-Err
 unfolding source
-returns-in-Refused c = rw c.in-Refused.is c.refused.ensures
+returns-in-Err c = simp (c.in-Err.is, ← c.from.ensures, ← c.refused.ensures)

@@ -1,9 +1,10 @@
 -- `abi::unsolved_rows` meets its contract.
+use native.Mathlib.Omega.{arith}
 use Rattle.abi.proofs.Refusals.{many-rows, few_rows_lem}
 use Rattle.abi.proofs.unsolved_rows.Goals as goal
 
 pub returns-then-n-gt-MOST_ROWS : goal.returns-then-n-gt-MOST_ROWS
-returns-then-n-gt-MOST_ROWS c = rw (many-rows _ _ c.if-n-gt-MOST_ROWS.true) c.unsolved.ensures
+returns-then-n-gt-MOST_ROWS c = rw (many-rows c.args.n c.args.mode (omega arith)) c.unsolved.ensures
 
 pub returns : goal.returns
-returns c = rw (few_rows_lem _ _ c.if-n-gt-MOST_ROWS.false, ← c.or_ten.ensures) c.unsolved-2.ensures
+returns c = rw (few_rows_lem c.args.n c.args.mode (omega arith), ← c.or_ten.ensures, ← c.number_of.ensures) c.unsolved-2.ensures

@@ -1,11 +1,15 @@
 -- `active::held` meets its contract.
+use Rattle.std.proofs.Common.{◌≡◌, refl, Option, Some, None}
+use Rattle.std.specs.Prelude.{unwrap_or}
+use Rattle.active.specs.declared.Active.{Active}
+use Rattle.active.specs.Active.{no_rows}
 use Rattle.active.specs.Collector.{held}
 use Rattle.active.proofs.held.Goals as goal
 
-pub returns-in-Off : goal.returns-in-Off
+by_cases : (coll : Option Active) → unwrap_or coll no_rows ≡ held coll
 unfolding held
-returns-in-Off c = simp (c.in-Off.is, ← c.no_rows.ensures)
+by_cases None = refl
+by_cases (Some act) = refl
 
-pub returns-in-On : goal.returns-in-On
-unfolding held
-returns-in-On c = simp c.in-On.is
+pub returns : goal.returns
+returns c = rw (c.unwrap_or.ensures, c.no_rows.ensures) (by_cases c.args.coll)

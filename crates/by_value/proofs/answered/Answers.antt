@@ -1,11 +1,12 @@
 -- `by_value::answered` meets its contract.
+use Rattle.float.proofs.Passed.{passed_on}
 use Rattle.by_value.specs.ByValue.{answered}
 use Rattle.by_value.proofs.answered.Goals as goal
 
-pub returns-in-At : goal.returns-in-At
+pub returns-in_err-r : goal.returns-in_err-r
 unfolding answered
-returns-in-At c = simp c.in-At.is
+returns-in_err-r c = rw c.in_err-r.was (passed_on _ c.from_residual.ensures.1)
 
-pub returns-in-Refused : goal.returns-in-Refused
+pub returns : goal.returns
 unfolding answered
-returns-in-Refused c = simp c.in-Refused.is
+returns c = rw c.in_ok-r.was

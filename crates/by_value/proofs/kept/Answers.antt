@@ -4,14 +4,18 @@ use Rattle.solve.specs.Solve.{collector}
 use Rattle.by_value.specs.ByValue.{kept}
 use Rattle.by_value.proofs.kept.Goals as goal
 
-pub returns-in-Answered : goal.returns-in-Answered
+pub returns-in-Ok : goal.returns-in-Ok
 unfolding kept held collected collector
-returns-in-Answered c = simp c.in-Answered.is
+returns-in-Ok c = simp c.in-Ok.is
 
-pub returns-in-Stopped : goal.returns-in-Stopped
+pub returns-in-Err-Stopped : goal.returns-in-Err-Stopped
 unfolding kept held collected collector
-returns-in-Stopped c = simp (c.in-Stopped.is, ← c.no_rows-none.ensures)
+returns-in-Err-Stopped c =
+    let stopped = rw c.in-Err-Stopped.is at c.in-Err-Stopped.field-0-is in
+    rw (c.in-Err-Stopped.is, stopped) c.no_rows.ensures
 
-pub returns-in-Refused : goal.returns-in-Refused
+pub returns-in-Err-Refused : goal.returns-in-Err-Refused
 unfolding kept held collected collector
-returns-in-Refused c = simp c.in-Refused.is
+returns-in-Err-Refused c =
+    let refused = rw c.in-Err-Refused.is at c.in-Err-Refused.field-0-is in
+    rw (c.in-Err-Refused.is, refused)

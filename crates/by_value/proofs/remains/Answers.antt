@@ -2,10 +2,10 @@
 use Rattle.by_value.specs.ByValue.{remains}
 use Rattle.by_value.proofs.remains.Goals as goal
 
-pub returns-in-At : goal.returns-in-At
+pub returns-in-Ok : goal.returns-in-Ok
 unfolding remains
-returns-in-At c = simp (c.in-At.is, ← c.held.ensures)
+returns-in-Ok c = simp (c.in-Ok.is, ← c.held.ensures)
 
-pub returns-in-Refused : goal.returns-in-Refused
+pub returns-in-Err : goal.returns-in-Err
 unfolding remains
-returns-in-Refused c = simp c.in-Refused.is
+returns-in-Err c = simp c.in-Err.is

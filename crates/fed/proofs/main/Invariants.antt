@@ -1,11 +1,10 @@
--- `fed::main` is safe and ends: each section goes further.
-use mathlib.Core.Path.{◌≡◌}
-use Prim.Native.Nat.{◌-◌}
+-- `fed::main` is safe and ends: each section leaves less.
+use Prim.Native.Nat.{◌≤◌}
 use lib.ListN.{length}
 use Rattle.fed.proofs.main.Given as goal
 
-abbrev pub invariant-loop-at : goal.invariant-loop-at
-invariant-loop-at l = length l.input ≡ 65536
+abbrev pub invariant-loop-rest : goal.invariant-loop-rest
+invariant-loop-rest l = length l.rest ≤ 65536
 
-abbrev pub decreases-loop-at : goal.decreases-loop-at
-decreases-loop-at l = l.n - l.at
+abbrev pub decreases-loop-rest : goal.decreases-loop-rest
+decreases-loop-rest l = length l.rest

@@ -21,14 +21,14 @@ above_zero (inf false) h = refl
 above_zero (fin true m e) h = absurd (false≢true h)
 above_zero (fin false m e) h = refl
 
-not-above-zero : (x : Float) → T (fits binary64 x) → lt (fin false 0 (pos 0)) x ≡ false → sub binary64 (fin false 0 (pos 0)) x ≡ abs x
+not_above_zero : (x : Float) → T (fits binary64 x) → lt (fin false 0 (pos 0)) x ≡ false → sub binary64 (fin false 0 (pos 0)) x ≡ abs x
 unfolding lt sub abs
-not-above-zero nan p h = refl
-not-above-zero (inf true) p h = refl
-not-above-zero (inf false) p h = absurd (true≢false h)
-not-above-zero (fin true m e) p h = rw (zero-mul (down e), zero-add, mul-one, one-mul) (rounds_to_itself false m e (neg-fits binary64 (fin true m e) p))
-not-above-zero (fin false zero e) p h = rw (zero-mul (down e), zero-mul (up e), one-mul) (rw zero-mul at (rounds_to_itself false zero e p))
-not-above-zero (fin false (suc m) e) p h = absurd (omega (arith, ltb-false (0 * down e) (suc m * up e * 1) h, mul-pos (zero-lt-suc m) (up_pos e)))
+not_above_zero nan p h = refl
+not_above_zero (inf true) p h = refl
+not_above_zero (inf false) p h = absurd (true≢false h)
+not_above_zero (fin true m e) p h = rw (zero-mul (down e), zero-add, mul-one, one-mul) (rounds_to_itself false m e (neg-fits binary64 (fin true m e) p))
+not_above_zero (fin false zero e) p h = rw (zero-mul (down e), zero-mul (up e), one-mul) (rw zero-mul at (rounds_to_itself false zero e p))
+not_above_zero (fin false (suc m) e) p h = absurd (omega (arith, ltb-false (0 * down e) (suc m * up e * 1) h, mul-pos (zero-lt-suc m) (up_pos e)))
 
 pub returns-then-x : goal.returns-then-x
 unfolding of_bits
@@ -36,4 +36,4 @@ returns-then-x c = above_zero c.args.x c.if-x.true
 
 pub returns-else-x : goal.returns-else-x
 unfolding of_bits
-returns-else-x c = not-above-zero c.args.x (subst T (sym c.well_formed.0.1) tt) c.if-x.false
+returns-else-x c = not_above_zero c.args.x (subst T (sym c.well_formed.0.1) tt) c.if-x.false

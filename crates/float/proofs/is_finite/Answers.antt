@@ -5,11 +5,11 @@ use lib.Ieee.{Float, nan, inf, fin, lt}
 use Rattle.float.specs.Float.{abs, finite}
 use Rattle.float.proofs.is_finite.Goals as goal
 
-below-infinity : (x : Float) → lt (abs x) (inf false) ≡ finite x
+below_infinity : (x : Float) → lt (abs x) (inf false) ≡ finite x
 unfolding lt abs finite
-below-infinity nan = refl
-below-infinity (inf s) = refl
-below-infinity (fin s m e) = refl
+below_infinity nan = refl
+below_infinity (inf s) = refl
+below_infinity (fin s m e) = refl
 
 pub returns : goal.returns
-returns c = rw (c.abs.ensures, c.infinity.ensures) (below-infinity c.args.x)
+returns c = rw (c.abs.ensures, c.infinity.ensures) (below_infinity c.args.x)

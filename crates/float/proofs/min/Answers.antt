@@ -1,10 +1,9 @@
--- `float::min` meets its contract: of two that are equal by their bits, and of others by `<`, after a test for a NaN by `x != x`. Assumes nothing.
+-- `float::min` meets its contract: of two that are equal by their bits, and of others by `<`, after a test for a NaN. Assumes nothing.
 use mathlib.Core.Path.{sym, subst, ◌∙◌}
 use lib.Dec.{T}
 use Rattle.float.specs.Operators.{when◌then◌else◌}
-use Rattle.float.proofs.Nans.{nan_test}
 use Rattle.float.proofs.Joined.{least_of_equal, least_of_unequal}
-use Rattle.float.proofs.min.Goals.{else-x, then-x}
+use Rattle.float.proofs.min.Goals.{else-is_nan, then-is_nan}
 use Rattle.float.proofs.min.Goals as goal
 
 pub returns-then-x-y : goal.returns-then-x-y
@@ -20,11 +19,17 @@ unfolding when◌then◌else◌
 returns-then-y-x c =
     let a = c.args in
     rw (← least_of_unequal a.x a.y c.if-x-y.false)
-    (elim c.if-x.branch [ then-x w ↦ simp (nan_test, w.if-x.true) | else-x w ↦ simp (nan_test, w.if-x.false, ← w.value-is, c.if-y-x.true) ])
+    (elim c.if-is_nan.branch [
+      | then-is_nan w ↦ simp (← c.is_nan.ensures.value, w.if-is_nan.true)
+      | else-is_nan w ↦ simp (← c.is_nan.ensures.value, w.if-is_nan.false, ← w.value-is, c.if-y-x.true)
+    ])
 
 pub returns-else-y-x : goal.returns-else-y-x
 unfolding when◌then◌else◌
 returns-else-y-x c =
     let a = c.args in
     rw (← least_of_unequal a.x a.y c.if-x-y.false)
-    (elim c.if-x.branch [ then-x w ↦ cc | else-x w ↦ simp (nan_test, w.if-x.false, ← w.value-is, c.if-y-x.false) ])
+    (elim c.if-is_nan.branch [
+      | then-is_nan w ↦ cc
+      | else-is_nan w ↦ simp (← c.is_nan.ensures.value, w.if-is_nan.false, ← w.value-is, c.if-y-x.false)
+    ])

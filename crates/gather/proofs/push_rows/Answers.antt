@@ -15,10 +15,10 @@ pub returns : goal.returns
 returns c =
     let a = c.args in
     let bytes = a.bytes.now in
-    let first = c.least-first.result in
+    let first = c.min-first.result in
     let n = (length bytes - first) / 8 in
     let at = (a.before + first) / 8 in
-    let fit = fits a.before (length bytes) first c.least-first.ensures in
+    let fit = fits a.before (length bytes) first c.min-first.ensures in
     let begun = c.push_bytes-begun in
     let made = put_floats n at (at + n) begun.result begun.new.rows _ _ refl (omega arith) (omega arith) c.read_floats.ensures in
     let all = in_parts a.before a.word first n at a.rows.now bytes fit.0 fit.1 in

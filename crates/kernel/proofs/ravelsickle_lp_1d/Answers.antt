@@ -4,10 +4,10 @@ use Rattle.abi.specs.Records.{bounded}
 use Rattle.abi.specs.Entries.{line_bounds}
 use Rattle.kernel.proofs.ravelsickle_lp_1d.Goals as goal
 
-pub returns-in-Between : goal.returns-in-Between
+pub returns-in-Ok : goal.returns-in-Ok
 unfolding line_bounds bounded
-returns-in-Between c = ap bounded (sym c.in-Between.is ∙ c.lp_1d-got.ensures)
+returns-in-Ok c = ap bounded (sym c.in-Ok.is ∙ c.lp_1d.ensures)
 
-pub returns-in-Refused : goal.returns-in-Refused
+pub returns-in-Err : goal.returns-in-Err
 unfolding line_bounds bounded
-returns-in-Refused c = rw (c.nan.ensures, c.nan-in-Refused.ensures) (ap bounded (sym c.in-Refused.is ∙ c.lp_1d-got.ensures))
+returns-in-Err c = rw (c.from.ensures, c.nan.ensures, c.nan-in-Err.ensures) (ap bounded (sym c.in-Err.is ∙ c.lp_1d.ensures))

@@ -8,16 +8,11 @@ use Rattle.kernel.proofs.ravelsickle_lp_2d_incre_max_y.Goals as goal
 pub returns-then-no_mode-clause-answer : goal.returns-then-no_mode-clause-answer
 unfolding source silent
 returns-then-no_mode-clause-answer c =
-    let args = c.args in
-    let e = source_refuses args.task args.rows.now (sym c.no_mode.ensures ∙ c.if-no_mode.true) in
-    rw (e, ← c.refusal_of.ensures) c.refused.ensures
+    let refused = source_refuses c.args.task c.args.rows.now (sym c.no_mode.ensures ∙ c.if-no_mode.true) in
+    rw refused.2 (rw (c.number_of.ensures, c.refusal_of.ensures, refused.1) at c.refused.ensures)
 
 pub returns-then-no_mode-clause-lent : goal.returns-then-no_mode-clause-lent
-unfolding source silent
-returns-then-no_mode-clause-lent c =
-    let args = c.args in
-    let e = source_refuses args.task args.rows.now (sym c.no_mode.ensures ∙ c.if-no_mode.true) in
-    rw e
+returns-then-no_mode-clause-lent c = rw (source_refuses c.args.task c.args.rows.now (sym c.no_mode.ensures ∙ c.if-no_mode.true)).2
 
 pub returns-clause-answer : goal.returns-clause-answer
 returns-clause-answer c =

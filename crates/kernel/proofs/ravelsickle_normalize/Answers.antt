@@ -2,14 +2,10 @@
 use Rattle.abi.specs.Records.{of_normalized}
 use Rattle.kernel.proofs.ravelsickle_normalize.Goals as goal
 
-pub returns-in-Done-clause-answer : goal.returns-in-Done-clause-answer
+pub returns-in-Ok-clause-answer : goal.returns-in-Ok-clause-answer
 unfolding of_normalized
-returns-in-Done-clause-answer c =
-    let call = c.normalize_lp2d-got.ensures in
-    rw (← call.answer, c.in-Done.is)
+returns-in-Ok-clause-answer c = rw (← c.normalize_lp2d.ensures.answer, c.in-Ok.is)
 
-pub returns-in-Refused-clause-answer : goal.returns-in-Refused-clause-answer
+pub returns-in-Err-clause-answer : goal.returns-in-Err-clause-answer
 unfolding of_normalized
-returns-in-Refused-clause-answer c =
-    let call = c.normalize_lp2d-got.ensures in
-    rw (← call.answer, c.in-Refused.is)
+returns-in-Err-clause-answer c = rw (← c.normalize_lp2d.ensures.answer, c.in-Err.is) c.from.ensures

@@ -3,10 +3,10 @@ use mathlib.Core.Path.{sym, ap, ◌∙◌}
 use Rattle.abi.specs.Records.{crossed}
 use Rattle.kernel.proofs.ravelsickle_solve_2x2.Goals as goal
 
-pub returns-in-At : goal.returns-in-At
+pub returns-in-Ok : goal.returns-in-Ok
 unfolding crossed
-returns-in-At c = ap crossed (sym c.in-At.is ∙ c.solve_2x2-got.ensures)
+returns-in-Ok c = ap crossed (sym c.in-Ok.is ∙ c.solve_2x2.ensures)
 
-pub returns-in-Refused : goal.returns-in-Refused
+pub returns-in-Err : goal.returns-in-Err
 unfolding crossed
-returns-in-Refused c = rw (c.nan.ensures, c.nan-in-Refused.ensures) (ap crossed (sym c.in-Refused.is ∙ c.solve_2x2-got.ensures))
+returns-in-Err c = rw (c.from.ensures, c.nan.ensures, c.nan-in-Err.ensures) (ap crossed (sym c.in-Err.is ∙ c.solve_2x2.ensures))

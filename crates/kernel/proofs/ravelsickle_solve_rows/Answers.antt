@@ -7,10 +7,11 @@ use Rattle.kernel.proofs.ravelsickle_solve_rows.Goals as goal
 pub returns-then-no_mode-clause-answer : goal.returns-then-no_mode-clause-answer
 unfolding solved
 returns-then-no_mode-clause-answer c =
-    rw (rows_refuse c.args.task c.args.rows.now (sym c.no_mode.ensures ∙ c.if-no_mode.true)) c.unsolved_rows.ensures
+    let refused = rows_refuse c.args.task c.args.rows.now (sym c.no_mode.ensures ∙ c.if-no_mode.true) in
+    rw refused.2 (rw refused.1 at c.unsolved_rows.ensures)
 
 pub returns-then-no_mode-clause-lent : goal.returns-then-no_mode-clause-lent
-returns-then-no_mode-clause-lent c = rw (rows_refuse c.args.task c.args.rows.now (sym c.no_mode.ensures ∙ c.if-no_mode.true))
+returns-then-no_mode-clause-lent c = rw (rows_refuse c.args.task c.args.rows.now (sym c.no_mode.ensures ∙ c.if-no_mode.true)).2
 
 pub returns-clause-answer : goal.returns-clause-answer
 returns-clause-answer c =

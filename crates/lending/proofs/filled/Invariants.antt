@@ -1,12 +1,9 @@
 -- `lending::filled` meets its contract: the array stays as long as it is.
 use mathlib.Core.Path.{◌≡◌}
-use Prim.Native.Nat.{◌+◌, ◌*◌, ◌-◌, ◌≤◌}
+use Prim.Native.Nat.{◌+◌, ◌*◌}
 use lib.ListN.{length}
 use Rattle.rows.specs.Constants.{most_rows}
 use Rattle.lending.proofs.filled.Given as goal
 
 abbrev pub invariant-loop-k : goal.invariant-loop-k
-invariant-loop-k l = (l.k ≤ most_rows + 1) × (length l.flat ≡ 3 * (most_rows + 1))
-
-abbrev pub decreases-loop-k : goal.decreases-loop-k
-decreases-loop-k l = most_rows + 1 - l.k
+invariant-loop-k l = length l.flat ≡ 3 * (most_rows + 1)

@@ -1,5 +1,5 @@
 -- `lent::gather` meets its contract: a row that is laid in the floats is the next of the records. Assumes nothing.
-use Rattle.std.proofs.Common.{◌≡◌, ◌<◌, length, arith}
+use Rattle.std.proofs.Common.{◌<◌, length, arith}
 use Rattle.rows.specs.Rows.{rows_of}
 use Rattle.rows.proofs.Lengths.{length-rows_of}
 use Rattle.lent.proofs.Prefix.{next}
@@ -9,7 +9,4 @@ pub loop-k-preserved : goal.loop-k-preserved
 loop-k-preserved c =
     let l = c.loop-k in
     let long : l.k < length (rows_of l.flat) = omega (arith, length-rows_of l.flat) in
-    (omega arith, rw (c.lay.ensures.laid, c.get-r.ensures) (next c.args.rows.now (rows_of l.flat) l.k (omega arith) long l.invariant.1))
-
-pub returns : goal.returns
-returns c = let all : c.loop-k.k ≡ c.args.n = omega arith in rw (← all) c.loop-k.invariant.1
+    rw (c.lay.ensures.laid, c.get.ensures) (next c.args.rows.now (rows_of l.flat) l.k (omega arith) long l.invariant)

@@ -1,53 +1,31 @@
 -- `line::span_of` meets its contract: what is left to do from pair k on is the whole.
-use mathlib.Core.Path.{◌≡◌, refl, sym, ◌∙◌}
-use mathlib.Core.Bool.{false}
-use native.Mathlib.Omega.{arith}
-use Rattle.active.specs.Active.{no_rows}
-use Rattle.line.specs.declared.Narrowed.TheVariants.{Kept}
-use Rattle.line.specs.Line.{narrow}
-use Rattle.line.proofs.Select.{span, cuts_all, goes_on, goes_on_above, goes_on_below}
+use mathlib.Core.Path.{refl}
+use Rattle.active.specs.Active.{no_rows, set_first, set_second}
+use Rattle.line.specs.Line.{without}
 use Rattle.line.proofs.Reduction.{whole_line_lem}
 use Rattle.line.proofs.Pairs.{pairs_end, pair_keeps, pair_empties}
 use Rattle.line.proofs.span_of.Goals.{in-Nothing, in-Above, in-Below}
 use Rattle.line.proofs.span_of.Goals as goal
 
-pub returns-in-All : goal.returns-in-All
+pub loop-k-init : goal.loop-k-init
 unfolding no_rows
+loop-k-init c = record { gives = rw (whole_line_lem {act = no_rows} c.infinity-high.ensures refl) }
+
+pub returns-in-All : goal.returns-in-All
+unfolding without
 returns-in-All c =
-    let a = c.args in
-    let l = c.loop-k in
-    let v = span l.high l.low l.first l.second in
-    rw (c.void.ensures, c.between.ensures, ← whole_line_lem {act = no_rows} c.infinity-high.ensures refl)
-    (sym (pair_empties a.autonan a.eps a.pairs.now a.n l.k v c.requires c.loop-k-test.true
-    (rw (← c.pair_at.ensures)
-    (cuts_all false a.eps l.k c.pair_at.result v c.cut_off.ensures c.in-All.is)))
-    ∙ l.invariant.1)
+    rw (c.void.ensures, c.between.ensures)
+    (pair_empties c.loop-k.invariant c.requires c.loop-k-test.true {cut = c.cut_off.result} (rw (← c.pair_at.ensures) c.cut_off.ensures) (rw c.in-All.is))
 
 pub loop-k-preserved : goal.loop-k-preserved
+unfolding without set_first set_second
 loop-k-preserved c =
-    let a = c.args in
-    let l = c.loop-k in
-    let v = span l.high l.low l.first l.second in
-    let m = c.match-cut_off in
-    let w = span m.high m.low m.first m.second in
-    let r = c.pair_at.result in
-    let is = c.cut_off.ensures in
-    let kept : narrow false a.eps l.k r v ≡ Kept w =
-    elim m.branch [
-      | in-Nothing x ↦ goes_on false a.eps l.k r v is w x.in-Nothing.is x.high-is x.low-is x.first-is x.second-is
-      | in-Above x ↦ goes_on_above false a.eps l.k r v is w x.in-Above.is x.high-is x.low-is x.first-is x.second-is
-      | in-Below x ↦ goes_on_below false a.eps l.k r v is w x.in-Below.is x.high-is x.low-is x.first-is x.second-is
-    ] in (
-      omega arith,
-      sym (pair_keeps a.autonan a.eps a.pairs.now a.n l.k v c.requires c.loop-k-test.true w (rw (← c.pair_at.ensures) kept)) ∙ l.invariant.1,
-    )
+    pair_keeps c.loop-k.invariant c.requires c.loop-k-test.true {cut = c.cut_off.result} (rw (← c.pair_at.ensures) c.cut_off.ensures)
+    (elim c.match-cut_off.branch [
+      | in-Nothing x ↦ rw x.in-Nothing.is (cc)
+      | in-Above x ↦ rw x.in-Above.is (cc)
+      | in-Below x ↦ rw x.in-Below.is (cc)
+    ])
 
 pub returns : goal.returns
-unfolding no_rows
-returns c =
-    let a = c.args in
-    let l = c.loop-k in
-    rw (c.meeting.ensures, c.between-2.ensures, ← whole_line_lem {act = no_rows} c.infinity-high.ensures refl)
-    (sym (pairs_end a.autonan a.eps a.pairs.now a.n l.k (span l.high l.low l.first l.second)
-    c.requires c.loop-k-test.false)
-    ∙ l.invariant.1)
+returns c = rw (c.meeting.ensures, c.between-2.ensures) (pairs_end c.loop-k.invariant c.requires c.loop-k-test.false)

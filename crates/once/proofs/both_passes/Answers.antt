@@ -1,31 +1,24 @@
 -- `once::both_passes` meets its contract.
-use mathlib.Core.Path.{refl, sym, ◌∙◌}
-use Rattle.rows.specs.Rows.{rows_of}
-use Rattle.step.specs.Step.{stepped}
-use Rattle.step.proofs.Answers.{tells}
-use Rattle.once.proofs.Cases.{passes_spent, passes_failed, passes_go_on}
+use mathlib.Core.Path.{sym}
+use Rattle.readings.proofs.Laws.{within-pure, then_answers, ends_with_it}
+use Rattle.step.specs.Step.{onward, ◌>>?◌}
+use Rattle.once.specs.Once.{passes}
 use Rattle.once.proofs.both_passes.Goals as goal
 
-pub returns-in-Spent : goal.returns-in-Spent
-unfolding stepped
-returns-in-Spent c =
-    let a = c.args in
-    let said = sym c.in-Spent.is ∙ c.forward-got.ensures in
-    let e = rw (c.no_rows.ensures, c.begun.ensures, c.frame-f.ensures) at said in
-    rw (passes_spent a.task (rows_of a.rows.now) a.bound a.left (tells _ e refl))
+pub returns-in_err-found : goal.returns-in_err-found
+unfolding passes ◌>>?◌
+returns-in_err-found c =
+    ends_with_it _ _ _ (rw (c.no_rows.ensures, c.begun.ensures, c.frame-f.ensures) at c.forward.ensures)
+    c.in_err-found.was c.from_residual.ensures.1
 
-pub returns-in-Failed : goal.returns-in-Failed
-unfolding stepped
-returns-in-Failed c =
-    let a = c.args in
-    let said = sym c.in-Failed.is ∙ c.forward-got.ensures in
-    let e = rw (c.no_rows.ensures, c.begun.ensures, c.frame-f.ensures) at said in
-    rw (passes_failed a.task (rows_of a.rows.now) a.bound a.left (tells _ e refl))
+pub returns-in-None : goal.returns-in-None
+unfolding passes ◌>>?◌ onward
+returns-in-None c =
+    then_answers _ _ _ (rw (c.no_rows.ensures, c.begun.ensures, c.frame-f.ensures) at c.forward.ensures)
+    c.in_ok-found.was (rw c.in-None.is (sym (within-pure _ _)))
 
-pub returns-in-Done : goal.returns-in-Done
-returns-in-Done c =
-    let a = c.args in
-    let said = sym c.in-Done.is ∙ c.forward-got.ensures in
-    let e = rw (c.no_rows.ensures, c.begun.ensures, c.frame-f.ensures) at said in
-    rw (passes_go_on a.task (rows_of a.rows.now) a.bound a.left (tells _ e refl), ← c.frame-f.ensures)
-    (rw c.fresh.ensures at c.deferred.ensures)
+pub returns-in-Some : goal.returns-in-Some
+unfolding passes ◌>>?◌ onward
+returns-in-Some c =
+    then_answers _ _ _ (rw (c.no_rows.ensures, c.begun.ensures, c.frame-f.ensures) at c.forward.ensures)
+    c.in_ok-found.was (rw (c.in-Some.is, ← c.fresh.ensures, ← c.frame-f.ensures) c.deferred.ensures)

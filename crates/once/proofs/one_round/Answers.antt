@@ -1,27 +1,22 @@
 -- `once::one_round` meets its contract.
-use Rattle.float.specs.Operators.{when◌then◌else◌}
-use Rattle.step.proofs.Answers.{tells}
-use Rattle.once.specs.Once.{rounded}
+use mathlib.Core.Path.{sym}
+use Rattle.readings.proofs.Laws.{within-pure, then_answers, ends_with_it}
+use Rattle.once.specs.Once.{on_box, one_round}
 use Rattle.once.proofs.one_round.Goals as goal
 
-pub returns-then-is_saturated : goal.returns-then-is_saturated
-unfolding rounded when◌then◌else◌
-returns-then-is_saturated c =
-    let wide = c.widened-wide.ensures in
-    let found = tells _ (rw wide at c.both_passes-got.ensures) c.in-Done.is in
-    rw (found, ← wide, ← c.is_saturated.ensures, c.if-is_saturated.true)
+pub returns-in_err-found : goal.returns-in_err-found
+unfolding one_round
+returns-in_err-found c =
+    rw (← c.widened-wide.ensures) (ends_with_it _ _ _ c.both_passes.ensures c.in_err-found.was c.from_residual.ensures.1)
 
-pub returns-in-Spent : goal.returns-in-Spent
-unfolding rounded
-returns-in-Spent c = rw (tells _ (rw c.widened-wide.ensures at c.both_passes-got.ensures) c.in-Spent.is)
+pub returns-in-None : goal.returns-in-None
+unfolding one_round on_box
+returns-in-None c =
+    rw (← c.widened-wide.ensures)
+    (then_answers _ _ _ c.both_passes.ensures c.in_ok-found.was (rw c.in-None.is (sym (within-pure _ _))))
 
-pub returns-in-Failed : goal.returns-in-Failed
-unfolding rounded
-returns-in-Failed c = rw (tells _ (rw c.widened-wide.ensures at c.both_passes-got.ensures) c.in-Failed.is)
-
-pub returns-else-is_saturated : goal.returns-else-is_saturated
-unfolding rounded when◌then◌else◌
-returns-else-is_saturated c =
-    let wide = c.widened-wide.ensures in
-    let found = tells _ (rw wide at c.both_passes-got.ensures) c.in-Done.is in
-    rw (found, ← wide, ← c.is_saturated.ensures, c.if-is_saturated.false)
+pub returns-in-Some : goal.returns-in-Some
+unfolding one_round on_box
+returns-in-Some c =
+    rw (← c.widened-wide.ensures)
+    (then_answers _ _ _ c.both_passes.ensures c.in_ok-found.was (rw (c.in-Some.is, c.is_saturated-sits_on_box.ensures) (sym (within-pure _ _))))

@@ -1,43 +1,41 @@
 -- `once::prepare` meets its contract.
 use mathlib.Core.Path.{sym, ◌∙◌}
 use native.Mathlib.Omega.{arith}
-use Rattle.readings.proofs.Laws.{within-pure}
+use Rattle.float.proofs.Passed.{passed_on}
+use Rattle.rows.specs.Rows.{rows_of}
 use Rattle.rows.proofs.Written.{flat_rows}
-use Rattle.once.specs.Once.{prepared, preparing, leaves}
-use Rattle.once.proofs.Cases.{normalises_paid, normalises_unpaid}
-use Rattle.once.proofs.prepare.Goals.{then-readings-left, else-readings-left}
+use Rattle.once.specs.declared.Normalize.TheVariants.{Off, Source}
+use Rattle.once.proofs.Cases.{off_is_free, off_leaves, source_takes, source_normalises, leaves_prepared, leaves_as_lent}
 use Rattle.once.proofs.prepare.Goals as goal
 
 pub returns-in-Off-clause-answer : goal.returns-in-Off-clause-answer
-unfolding prepared preparing leaves
-returns-in-Off-clause-answer c =
-    let a = c.args in
-    let off = c.in-Off.is in
-    rw (off, within-pure)
+returns-in-Off-clause-answer c = rw c.in-Off.is (sym (off_is_free c.args.left (rows_of c.args.rows.now)))
 
 pub returns-in-Off-clause-lent : goal.returns-in-Off-clause-lent
-unfolding prepared preparing leaves
 returns-in-Off-clause-lent c =
     let a = c.args in
-    let off = c.in-Off.is in
-    rw (off, within-pure) (sym (flat_rows a.rows.now a.n (omega arith)))
+    let kept = leaves_prepared a.left Off a.rows.now (off_is_free a.left (rows_of a.rows.now)) in
+    rw (c.in-Off.is, kept, off_leaves (rows_of a.rows.now)) (sym (flat_rows a.rows.now a.n (omega arith)))
 
-pub returns-after-readings-left-clause-answer : goal.returns-after-readings-left-clause-answer
-returns-after-readings-left-clause-answer c =
+pub returns-in_err-rest-in-Source-clause-answer : goal.returns-in_err-rest-in-Source-clause-answer
+returns-in_err-rest-in-Source-clause-answer c =
     let a = c.args in
-    let source = c.in-Source.is in
-    elim c.if-readings-left.branch [
-      | then-readings-left w ↦ rw source (c.pay.ensures ∙ (normalises_paid a.left a.n a.rows.now (omega arith) w.if-readings-left.true).0)
-      | else-readings-left w ↦ rw source (c.pay.ensures ∙ (normalises_unpaid a.left a.n a.rows.now (omega arith) w.if-readings-left.false).0)
-    ]
+    rw (c.in-Source.is, source_takes a.rows.now a.n (omega arith), ← c.pay.ensures, c.in_err-rest-in-Source.was) (passed_on _ c.from_residual.ensures.1)
 
-pub returns-after-readings-left-clause-lent : goal.returns-after-readings-left-clause-lent
-returns-after-readings-left-clause-lent c =
+pub returns-in_err-rest-in-Source-clause-lent : goal.returns-in_err-rest-in-Source-clause-lent
+returns-in_err-rest-in-Source-clause-lent c =
     let a = c.args in
-    let source = c.in-Source.is in
-    elim c.if-readings-left.branch [
-      | then-readings-left w ↦
-          rw source (w.rows-is ∙ w.normalize.ensures ∙ sym (normalises_paid a.left a.n a.rows.now (omega arith) w.if-readings-left.true).1)
-      | else-readings-left w ↦
-          rw source (w.rows-is ∙ sym (normalises_unpaid a.left a.n a.rows.now (omega arith) w.if-readings-left.false).1)
-    ]
+    rw (c.in-Source.is) (sym (leaves_as_lent a.left _ a.rows.now
+    (rw (source_takes a.rows.now a.n (omega arith)) (sym c.pay.ensures ∙ c.in_err-rest-in-Source.was))))
+
+pub returns-in_ok-rest-in-Source-clause-answer : goal.returns-in_ok-rest-in-Source-clause-answer
+returns-in_ok-rest-in-Source-clause-answer c =
+    let a = c.args in
+    rw (c.in-Source.is, source_takes a.rows.now a.n (omega arith)) (sym c.in_ok-rest-in-Source.was ∙ c.pay.ensures)
+
+pub returns-in_ok-rest-in-Source-clause-lent : goal.returns-in_ok-rest-in-Source-clause-lent
+returns-in_ok-rest-in-Source-clause-lent c =
+    let a = c.args in
+    let paid = sym c.pay.ensures ∙ c.in_ok-rest-in-Source.was in
+    let kept = leaves_prepared a.left Source a.rows.now {rest = c.in_ok-rest-in-Source.rest} (rw (source_takes a.rows.now a.n (omega arith)) paid) in
+    rw (c.in-Source.is, kept, source_normalises) c.normalize.ensures

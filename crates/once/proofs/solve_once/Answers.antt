@@ -1,19 +1,24 @@
 -- `once::solve_once` meets its contract.
-use mathlib.Core.Path.{sym, ap, ◌∙◌}
-use Rattle.once.specs.Once.{rounding}
-use Rattle.once.proofs.Answers.{prepared_tells, unprepared_tells}
+use mathlib.Core.Path.{refl, sym, ap, ◌∙◌}
+use Rattle.readings.proofs.Laws.{pays, pays_nothing, then_answers, ends_with_it}
+use Rattle.rows.specs.Rows.{rows_of}
+use Rattle.once.specs.Once.{prepared, solving_once}
+use Rattle.once.proofs.Cases.{rows_again, leaves_prepared}
 use Rattle.once.proofs.solve_once.Goals as goal
 
-pub returns-in-Spent-clause-answer : goal.returns-in-Spent-clause-answer
-unfolding rounding
-returns-in-Spent-clause-answer c =
+pub returns-in_err-rest-clause-answer : goal.returns-in_err-rest-clause-answer
+unfolding solving_once
+returns-in_err-rest-clause-answer c =
     let a = c.args in
-    let p = unprepared_tells _ (sym c.in-Spent.is ∙ c.prepare-ready.ensures.answer) in
-    ap (rounding a.task a.bound) (sym p)
+    let ready = prepared a.mode (rows_of a.rows.now) in
+    let unpaid = pays_nothing a.left ready (sym c.prepare.ensures.answer ∙ c.in_err-rest.was) in
+    ends_with_it a.left ready _ (sym unpaid) refl c.from_residual.ensures.1
 
-pub returns-in-Done-clause-answer : goal.returns-in-Done-clause-answer
-unfolding rounding
-returns-in-Done-clause-answer c =
+pub returns-clause-answer : goal.returns-clause-answer
+unfolding solving_once
+returns-clause-answer c =
     let a = c.args in
-    let p = prepared_tells a.rows.now _ (sym c.in-Done.is ∙ c.prepare-ready.ensures.answer) c.prepare-ready.ensures.lent in
-    c.one_round.ensures ∙ ap (rounding a.task a.bound) (sym p)
+    let ready = prepared a.mode (rows_of a.rows.now) in
+    let paid = sym c.prepare.ensures.answer ∙ c.in_ok-rest.was in
+    let kept = ap rows_of (c.prepare.ensures.lent ∙ leaves_prepared a.left a.mode a.rows.now paid) ∙ rows_again ready.value in
+    then_answers a.left ready _ (sym (pays a.left ready paid)) refl (rw (← kept) c.one_round.ensures)

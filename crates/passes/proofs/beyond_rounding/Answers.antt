@@ -1,4 +1,4 @@
--- `forward::beyond_rounding` meets its contract.
+-- `passes::beyond_rounding` meets its contract.
 use mathlib.Core.Path.{sym}
 use Rattle.float.specs.Float.{zero}
 use Rattle.float.proofs.Laws.{above_no_size}

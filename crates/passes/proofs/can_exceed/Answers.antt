@@ -1,4 +1,4 @@
--- `deferred::can_exceed` meets its contract.
+-- `passes::can_exceed` meets its contract.
 use Rattle.float.specs.Float.{zero}
 use Rattle.passes.proofs.can_exceed.Goals as goal
 

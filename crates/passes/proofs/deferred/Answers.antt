@@ -1,34 +1,38 @@
--- `deferred::deferred` meets its contract: at each turn so many rounds are left, with `rest` readings.
+-- `passes::deferred` meets its contract: at each turn the rounds that are left, with `rest` readings, give the whole.
+use native.Mathlib.Omega.{arith}
+use Prim.Native.Nat.{◌+◌, ◌-◌}
 use borrow.Author.Rules.{rules}
 use Rattle.passes.proofs.Rounds.{rounds_end, scan_stops, none_worse, named, step_stops, step_fails, step_finds}
 use Rattle.passes.proofs.deferred.Goals as goal
 
-pub returns-in-Spent : goal.returns-in-Spent
-returns-in-Spent c = scan_stops c.loop-rounds.invariant c.loop-rounds-test.true c.worst_row-got.ensures c.in-Spent.is
+pub returns-in_err-w : goal.returns-in_err-w
+returns-in_err-w c =
+    scan_stops c.loop-round.invariant (4 - (c.loop-round.round + 1)) (omega arith) c.worst_row.ensures c.in_err-w.was c.from_residual.ensures.1
 
-pub returns-in-NoRow : goal.returns-in-NoRow
-returns-in-NoRow c = none_worse c.loop-rounds.invariant c.loop-rounds-test.true c.worst_row-got.ensures c.in-Found.is c.in-NoRow.is
+pub returns-in_default : goal.returns-in_default
+returns-in_default c =
+    none_worse c.loop-round.invariant (4 - (c.loop-round.round + 1)) (omega arith) c.worst_row.ensures c.in_ok-w.was c.in_default.is
 
-pub incre_step_2d-next-requires : goal.incre_step_2d-next-requires
-incre_step_2d-next-requires c =
-    let below = named c.loop-rounds.invariant c.loop-rounds-test.true c.worst_row-got.ensures c.in-Found.is c.in-Holds.is in
+pub incre_step_2d-requires : goal.incre_step_2d-requires
+incre_step_2d-requires c =
+    let below = named c.loop-round.invariant (4 - (c.loop-round.round + 1)) (omega arith) c.worst_row.ensures c.in_ok-w.was c.in-Some.is in
     search rules
 
-pub returns-in-Spent-next : goal.returns-in-Spent-next
-returns-in-Spent-next c =
-    step_stops c.loop-rounds.invariant c.loop-rounds-test.true c.worst_row-got.ensures c.in-Found.is
-    c.in-Holds.is c.incre_step_2d-next.ensures c.in-Spent-next.is
+pub returns-in_err-found : goal.returns-in_err-found
+returns-in_err-found c =
+    step_stops c.loop-round.invariant (4 - (c.loop-round.round + 1)) (omega arith) c.worst_row.ensures c.in_ok-w.was c.in-Some.is
+    c.incre_step_2d.ensures c.in_err-found.was c.from_residual-in_err-found.ensures.1
 
-pub returns-in-Failed : goal.returns-in-Failed
-returns-in-Failed c =
-    step_fails c.loop-rounds.invariant c.loop-rounds-test.true c.worst_row-got.ensures c.in-Found.is
-    c.in-Holds.is c.incre_step_2d-next.ensures c.in-Failed.is
+pub returns-in-None : goal.returns-in-None
+returns-in-None c =
+    step_fails c.loop-round.invariant (4 - (c.loop-round.round + 1)) (omega arith) c.worst_row.ensures c.in_ok-w.was c.in-Some.is
+    c.incre_step_2d.ensures (rw c.in-None.is at c.in_ok-found.was)
 
-pub loop-rounds-preserved : goal.loop-rounds-preserved
-loop-rounds-preserved c =
+pub loop-round-preserved : goal.loop-round-preserved
+loop-round-preserved c =
     rw c.fresh-s.ensures
-    (step_finds c.loop-rounds.invariant c.loop-rounds-test.true c.worst_row-got.ensures c.in-Found.is
-    c.in-Holds.is c.incre_step_2d-next.ensures c.in-Done.is)
+    (step_finds c.loop-round.invariant (4 - (c.loop-round.round + 1)) (omega arith) c.worst_row.ensures c.in_ok-w.was c.in-Some.is
+    c.incre_step_2d.ensures (rw c.in-Some-found.is at c.in_ok-found.was))
 
 pub returns : goal.returns
-returns c = rounds_end c.loop-rounds.invariant (search rules)
+returns c = rounds_end c.loop-round.invariant (omega arith)

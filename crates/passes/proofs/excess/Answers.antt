@@ -1,4 +1,4 @@
--- `deferred::excess` meets its contract.
+-- `passes::excess` meets its contract.
 use Rattle.rows.specs.Constants.{eps_rounding}
 use Rattle.passes.specs.Passes.{excess}
 use Rattle.passes.proofs.excess.Goals as goal

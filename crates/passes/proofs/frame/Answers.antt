@@ -1,4 +1,4 @@
--- `forward::frame` meets its contract.
+-- `passes::frame` meets its contract.
 use mathlib.Core.Path.{refl}
 use Rattle.passes.specs.Passes.{frame}
 use Rattle.passes.proofs.frame.Goals as goal

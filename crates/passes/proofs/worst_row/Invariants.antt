@@ -1,5 +1,4 @@
--- `deferred::worst_row` meets its contract: at each turn it stands at row i with the worst row so far and `rest` readings left.
-use Prim.Native.Nat.{◌-◌}
+-- `passes::worst_row` meets its contract: at each turn it stands at row i with the worst row so far and `rest` readings left.
 use Rattle.readings.specs.Readings.{within}
 use Rattle.rows.specs.Rows.{rows_of}
 use Rattle.passes.specs.Passes.{worst, none}
@@ -8,6 +7,3 @@ use Rattle.passes.proofs.worst_row.Given as goal
 
 abbrev pub invariant-loop-i : goal.invariant-loop-i
 invariant-loop-i l = Scan l.eps l.p l.rows l.n l.i l.rest l.w (within l.left (worst l.eps l.p (rows_of l.rows) 0 none))
-
-abbrev pub decreases-loop-i : goal.decreases-loop-i
-decreases-loop-i l = l.n - l.i

@@ -1,16 +1,15 @@
 -- `project::first_that_works` meets its contract.
-use borrow.Author.Rules.{rules}
 use Rattle.project.proofs.Attempts.{ends, stops, finds, tries_on}
 use Rattle.project.proofs.first_that_works.Goals as goal
 
-pub returns-in-Pass : goal.returns-in-Pass
-returns-in-Pass c = finds c.loop-k.invariant (search rules) c.works.ensures c.in-Pass.is
+pub returns-in_err-ok : goal.returns-in_err-ok
+returns-in_err-ok c = stops c.loop-x.invariant c.loop-x-test.true c.works.ensures c.in_err-ok.was c.from_residual.ensures.1
 
-pub returns-in-Spent : goal.returns-in-Spent
-returns-in-Spent c = stops c.loop-k.invariant (search rules) c.works.ensures c.in-Spent.is
+pub returns-then-ok : goal.returns-then-ok
+returns-then-ok c = finds c.loop-x.invariant c.loop-x-test.true c.works.ensures c.in_ok-ok.was c.if-ok.true
 
-pub loop-k-preserved : goal.loop-k-preserved
-loop-k-preserved c = tries_on c.loop-k.invariant (search rules) c.works.ensures c.in-Fail.is
+pub loop-x-preserved : goal.loop-x-preserved
+loop-x-preserved c = tries_on c.loop-x.invariant c.loop-x-test.true c.works.ensures c.in_ok-ok.was c.if-ok.false
 
 pub returns : goal.returns
-returns c = ends c.loop-k.invariant c.loop-k-test.false
+returns c = ends c.loop-x.invariant c.loop-x-test.false

@@ -19,7 +19,7 @@ pub returns-then-passed-kept_of : goal.returns-then-passed-kept_of
 unfolding of_fields head_on when◌then◌else◌ rows_at
 returns-then-passed-kept_of c =
     let a = c.args in
-    let some = take c.least-n.result a.bytes.now in
+    let some = take c.min-n.result a.bytes.now in
     let put = c.put.ensures.out ∙ copied a.head.now a.passed some (simp length-take (omega arith)) in
     record { taken = omega arith; head = rw (← c.kept_of.ensures, lt-ltb _ _ c.if-passed-kept_of.true) put }
 

@@ -15,8 +15,8 @@ pub returns : goal.returns
 unfolding of_header header_bytes
 returns c =
     let a = c.args in
-    let some = take c.least-n.result a.bytes.now in
+    let some = take c.min-n.result a.bytes.now in
     record {
-      taken = c.least-n.ensures;
+      taken = c.min-n.ensures;
       head = c.put.ensures.out ∙ copied a.head.now a.passed some (simp length-take (omega arith));
     }

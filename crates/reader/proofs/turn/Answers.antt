@@ -9,7 +9,7 @@ use native.Mathlib.Omega.{arith}
 use lib.ListN.{length, take}
 use lib.Seq.{take-length, take_all}
 use lib.Ieee.{Float}
-use Rattle.solve.specs.declared.Outcome.{Outcome}
+use Rattle.solve.specs.Solve.{Outcome}
 use Rattle.text.specs.Text.{written}
 use Rattle.text.specs.Lines.{outcome_line}
 use Rattle.record.specs.Sizes.{most_floats}

@@ -2,15 +2,21 @@
 use Rattle.rebuild.specs.Supports.{supported_by, supports}
 use Rattle.rebuild.proofs.active_basis_supports_max_y.Goals as goal
 
-pub returns-in-NoRow : goal.returns-in-NoRow
+pub returns-in-None-default : goal.returns-in-None-default
 unfolding supports supported_by
-returns-in-NoRow c = simp c.in-NoRow.is
+returns-in-None-default c = simp c.in-None-default.is-0
 
-pub returns-in-NoRow-second : goal.returns-in-NoRow-second
+pub returns-in-Some-None : goal.returns-in-Some-None
 unfolding supports supported_by
-returns-in-NoRow-second c = simp (c.in-Holds.is, ← c.row_or_zeros-r.ensures, c.in-NoRow-second.is, ← c.one_supports.ensures)
+returns-in-Some-None c = simp (c.in-Some-None.is-0, c.in-Some-None.is-1, ← c.row_or_zeros.ensures, ← c.one_supports.ensures)
 
-pub returns-in-Holds-second : goal.returns-in-Holds-second
+pub returns-in-Some-Some : goal.returns-in-Some-Some
 unfolding supports supported_by
-returns-in-Holds-second c =
-    simp (c.in-Holds.is, ← c.row_or_zeros-r.ensures, c.in-Holds-second.is, ← c.row_or_zeros.ensures, ← c.two_support.ensures)
+returns-in-Some-Some c =
+    simp (
+      c.in-Some-Some.is-0,
+      c.in-Some-Some.is-1,
+      ← c.row_or_zeros-r.ensures,
+      ← c.row_or_zeros-in-Some-Some.ensures,
+      ← c.two_support.ensures,
+    )

@@ -3,14 +3,14 @@ use Rattle.float.specs.Operators.{when◌then◌else◌}
 use Rattle.rebuild.specs.Rebuild.{better}
 use Rattle.rebuild.proofs.better.Goals as goal
 
-pub returns-then-s-t : goal.returns-then-s-t
+pub returns-in-Some : goal.returns-in-Some
 unfolding better when◌then◌else◌
-returns-then-s-t c = simp (c.in-Done.is, c.if-s-t.true)
+returns-in-Some c = simp (c.in-Some.is, c.if-not-s-t.true)
 
-pub returns-in-Failed : goal.returns-in-Failed
+pub returns-in_default : goal.returns-in_default
+unfolding better when◌then◌else◌
+returns-in_default c = simp (c.in-Some.is, c.if-not-s-t.false)
+
+pub returns-in_default-2 : goal.returns-in_default-2
 unfolding better
-returns-in-Failed c = simp c.in-Failed.is
-
-pub returns-else-s-t : goal.returns-else-s-t
-unfolding better when◌then◌else◌
-returns-else-s-t c = simp (c.in-Done.is, c.if-s-t.false)
+returns-in_default-2 c = simp c.in_default.is

@@ -1,19 +1,25 @@
 -- `rebuild::ordered` meets its contract.
-use mathlib.Core.Path.{◌≡◌}
-use Prim.Native.Nat.{ℕ}
-use Rattle.active.specs.declared.Slot.{Slot}
-use Rattle.active.specs.declared.Slot.TheVariants.{Holds}
+use Rattle.std.specs.Prelude.{ℕ, Option, Some, None, true, false, ◌≡◌}
+use Rattle.std.specs.Option.{is_some}
+use mathlib.Core.Path.{refl, sym, ◌∙◌}
+use Rattle.active.specs.declared.Active.{Active}
 use Rattle.rebuild.specs.Rebuild.{ordered_by, ordered}
 use Rattle.rebuild.proofs.ordered.Goals as goal
 
-kept : {first : Slot} (second : Slot) {i : ℕ} → first ≡ Holds i → record { first = first; second = second } ≡ ordered_by first second
+kept : (first second : Option ℕ) → is_some first ≡ true → ◌≡◌ {A = Active} (record { first = first; second = second }) (ordered_by first second)
 unfolding ordered_by
-kept second e = rw e
+kept None second h = absurd (cc)
+kept (Some i) second h = refl
 
-pub returns-in-NoRow : goal.returns-in-NoRow
-unfolding ordered ordered_by
-returns-in-NoRow c = simp c.in-NoRow.is
+moved : (first second : Option ℕ) → is_some first ≡ false → ◌≡◌ {A = Active} (record { first = second; second = None }) (ordered_by first second)
+unfolding ordered_by
+moved None second h = refl
+moved (Some i) second h = absurd (cc)
 
-pub returns-in-Holds : goal.returns-in-Holds
+pub returns-then-is_some : goal.returns-then-is_some
 unfolding ordered
-returns-in-Holds c = kept _ c.in-Holds.is
+returns-then-is_some c = kept _ _ (sym c.is_some.ensures ∙ c.if-is_some.true)
+
+pub returns : goal.returns
+unfolding ordered
+returns c = moved _ _ (sym c.is_some.ensures ∙ c.if-is_some.false)

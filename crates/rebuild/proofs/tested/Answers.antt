@@ -1,23 +1,36 @@
 -- `rebuild::tested` meets its contract.
-use Rattle.rebuild.proofs.Cases.{test_spent, test_fails, test_short, test_passes, test_unsupported}
-use borrow.Author.Rules.{rules}
+use mathlib.Core.Path.{sym}
+use Rattle.float.specs.Operators.{when◌then◌else◌}
+use Rattle.readings.proofs.Laws.{within-pure, then_answers, ends_with_it, paid_then_answers, unpaid}
+use Rattle.rebuild.specs.Rebuild.{tested}
 use Rattle.rebuild.proofs.tested.Goals as goal
 
-pub returns-then-rest-lt2 : goal.returns-then-rest-lt2
-returns-then-rest-lt2 c = test_short _ _ _ _ _ _ c.none_above.ensures c.in-Pass.is c.if-rest-lt2.true
+pub returns-in_err-ok : goal.returns-in_err-ok
+unfolding tested
+returns-in_err-ok c = ends_with_it _ _ _ c.none_above.ensures c.in_err-ok.was c.from_residual.ensures.1
+
+pub returns-then-not-ok : goal.returns-then-not-ok
+unfolding tested when◌then◌else◌
+returns-then-not-ok c = then_answers _ _ _ c.none_above.ensures c.in_ok-ok.was (rw c.if-not-ok.true (sym (within-pure _ _)))
+
+pub returns-in_err-over : goal.returns-in_err-over
+unfolding tested when◌then◌else◌
+returns-in_err-over c =
+    then_answers _ _ _ c.none_above.ensures c.in_ok-ok.was
+    (rw c.if-not-ok.false (unpaid _ 2 _ c.pay.ensures c.in_err-over.was c.from_residual-in_err-over.ensures.1))
 
 pub returns-then-active_basis_supports_max_y : goal.returns-then-active_basis_supports_max_y
+unfolding tested when◌then◌else◌
 returns-then-active_basis_supports_max_y c =
-    test_passes _ _ _ _ _ _ c.none_above.ensures c.in-Pass.is (search rules)
-    c.active_basis_supports_max_y.ensures c.if-active_basis_supports_max_y.true
+    then_answers _ _ _ c.none_above.ensures c.in_ok-ok.was
+    (rw c.if-not-ok.false
+    (paid_then_answers _ 2 _ c.pay.ensures c.in_ok-over.was
+    (rw (← c.active_basis_supports_max_y.ensures, c.if-active_basis_supports_max_y.true) (sym (within-pure _ _)))))
 
-pub returns-in-Spent : goal.returns-in-Spent
-returns-in-Spent c = test_spent _ _ _ _ _ _ c.none_above.ensures c.in-Spent.is
-
-pub returns-in-Fail : goal.returns-in-Fail
-returns-in-Fail c = test_fails _ _ _ _ _ _ c.none_above.ensures c.in-Fail.is
-
-pub returns-else-active_basis_supports_max_y : goal.returns-else-active_basis_supports_max_y
-returns-else-active_basis_supports_max_y c =
-    test_unsupported _ _ _ _ _ _ c.none_above.ensures c.in-Pass.is (search rules)
-    c.active_basis_supports_max_y.ensures c.if-active_basis_supports_max_y.false
+pub returns : goal.returns
+unfolding tested when◌then◌else◌
+returns c =
+    then_answers _ _ _ c.none_above.ensures c.in_ok-ok.was
+    (rw c.if-not-ok.false
+    (paid_then_answers _ 2 _ c.pay.ensures c.in_ok-over.was
+    (rw (← c.active_basis_supports_max_y.ensures, c.if-active_basis_supports_max_y.false) (sym (within-pure _ _)))))

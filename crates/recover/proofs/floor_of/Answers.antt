@@ -3,10 +3,10 @@ use lib.Ieee.{neg}
 use Rattle.recover.specs.Recover.{floor_of}
 use Rattle.recover.proofs.floor_of.Goals as goal
 
-pub returns-in-Nowhere : goal.returns-in-Nowhere
+pub returns-in-None : goal.returns-in-None
 unfolding floor_of neg
-returns-in-Nowhere c = rw (c.in-Nowhere.is, c.infinity.ensures)
+returns-in-None c = rw (c.in-None.is, c.infinity.ensures)
 
-pub returns-in-At : goal.returns-in-At
+pub returns-in-Some : goal.returns-in-Some
 unfolding floor_of
-returns-in-At c = rw c.in-At.is
+returns-in-Some c = rw c.in-Some.is

@@ -1,12 +1,12 @@
 -- `recover::recover_prefix` meets its contract.
-use Rattle.recover.proofs.Cases.{recover_spent, recover_nowhere, recover_at}
+use Rattle.readings.proofs.Laws.{then_answers, ends_with_it}
+use Rattle.recover.specs.Recover.{recover}
 use Rattle.recover.proofs.recover_prefix.Goals as goal
 
-pub returns-in-Spent : goal.returns-in-Spent
-returns-in-Spent c = recover_spent _ _ _ _ _ c.project_x_at_fixed_y.ensures c.in-Spent.is
+pub returns-in_err-fixed : goal.returns-in_err-fixed
+unfolding recover
+returns-in_err-fixed c = ends_with_it _ _ _ c.project_x_at_fixed_y.ensures c.in_err-fixed.was c.from_residual.ensures.1
 
-pub returns-in-Nowhere : goal.returns-in-Nowhere
-returns-in-Nowhere c = rw c.on_boundaries.ensures (recover_nowhere _ _ _ _ _ c.project_x_at_fixed_y.ensures c.in-Nowhere.is)
-
-pub returns-in-At : goal.returns-in-At
-returns-in-At c = rw c.on_boundaries-in-At.ensures (recover_at _ _ _ _ _ c.project_x_at_fixed_y.ensures c.in-At.is)
+pub returns : goal.returns
+unfolding recover
+returns c = then_answers _ _ _ c.project_x_at_fixed_y.ensures c.in_ok-fixed.was c.on_boundaries.ensures

@@ -2,10 +2,10 @@
 use Rattle.recover.specs.Recover.{seed_of}
 use Rattle.recover.proofs.seed_of.Goals as goal
 
-pub returns-in-Nowhere : goal.returns-in-Nowhere
+pub returns-in-None : goal.returns-in-None
 unfolding seed_of
-returns-in-Nowhere c = simp c.in-Nowhere.is
+returns-in-None c = simp c.in-None.is
 
-pub returns-in-At : goal.returns-in-At
+pub returns-in-Some : goal.returns-in-Some
 unfolding seed_of
-returns-in-At c = simp c.in-At.is
+returns-in-Some c = simp c.in-Some.is

@@ -3,14 +3,14 @@ use Rattle.float.specs.Operators.{when◌then◌else◌}
 use Rattle.recover.specs.Recover.{unmoved}
 use Rattle.recover.proofs.unmoved.Goals as goal
 
-pub returns-then-x-s : goal.returns-then-x-s
-unfolding unmoved when◌then◌else◌
-returns-then-x-s c = simp (c.in-At.is, c.if-x-s.true)
-
-pub returns-in-Nowhere : goal.returns-in-Nowhere
+pub returns-in_err-fixed : goal.returns-in_err-fixed
 unfolding unmoved
-returns-in-Nowhere c = simp c.in-Nowhere.is
+returns-in_err-fixed c = simp (c.from_residual.ensures, c.in_err-fixed.was)
 
-pub returns-else-x-s : goal.returns-else-x-s
+pub returns-then-branch-s : goal.returns-then-branch-s
 unfolding unmoved when◌then◌else◌
-returns-else-x-s c = simp (c.in-At.is, c.if-x-s.false)
+returns-then-branch-s c = simp (c.in_ok-fixed.was, c.if-branch-s.true)
+
+pub returns : goal.returns
+unfolding unmoved when◌then◌else◌
+returns c = simp (c.in_ok-fixed.was, c.if-branch-s.false)

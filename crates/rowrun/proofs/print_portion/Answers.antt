@@ -17,7 +17,7 @@ pub loop-from-init : goal.loop-from-init
 unfolding state texts
 loop-from-init g c =
     let a = c.args in
-    (printing_start (state a.link a.head.now a.rows.now) a.bytes.now c.requires.head_value, refl, Appends-nil _)
+    (printing_start (state a.link.now a.head.now a.rows.now) a.bytes.now c.requires.head_value, refl, Appends-nil _)
 
 pub overflow_add-from : goal.overflow_add-from
 unfolding state
@@ -32,9 +32,9 @@ slice_bounds-write_whole-end g c = let fed = c.fill-fed.ensures in text_fits _ _
 pub slice_bounds-write_whole-end-in-loop-from : goal.slice_bounds-write_whole-end-in-loop-from
 slice_bounds-write_whole-end-in-loop-from g c = let fed = c.fill-fed.ensures in text_shape _ _ _ fed.printed fed.out
 
-pub returns-in-Err-clause-listens : goal.returns-in-Err-clause-listens
+pub returns-in_err-write_whole-clause-listens : goal.returns-in_err-write_whole-clause-listens
 unfolding state
-returns-in-Err-clause-listens g c =
+returns-in_err-write_whole-clause-listens g c =
     let l = c.loop-from in
     let fed = c.fill-fed.ensures in
     let next = printing_next l.invariant.0 (length l.out) fed.taken fed.link fed.head fed.rows in
@@ -52,7 +52,7 @@ loop-from-preserved g c =
     let l = c.loop-from in
     let fed = c.fill-fed.ensures in
     let before = l.invariant.2 in
-    let lines = subst (Appends _ _) (text_first _ _ _ fed.printed fed.out) c.in_default.ensures in (
+    let lines = subst (Appends _ _) (text_first _ _ _ fed.printed fed.out) c.in_ok-write_whole.ensures in (
       printing_next l.invariant.0 (length l.out) fed.taken fed.link fed.head fed.rows,
       search rules,
       subst (Appends _ _) (printed_then l.invariant.0 c.fill-fed.result.taken) (Appends-trans _ _ _ _ _ before lines),
@@ -70,4 +70,5 @@ pub returns-clause-printed : goal.returns-clause-printed
 unfolding state
 returns-clause-printed g c =
     let l = c.loop-from in
-    subst (Appends _ _) (ap (texts (state c.args.link c.args.head.now c.args.rows.now)) (take_all l.from c.args.bytes.now c.loop-from-test.false)) l.invariant.2
+    let begun = state c.args.link.now c.args.head.now c.args.rows.now in
+    subst (Appends _ _) (ap (texts begun) (take_all l.from c.args.bytes.now c.loop-from-test.false)) l.invariant.2

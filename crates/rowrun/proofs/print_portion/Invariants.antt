@@ -10,8 +10,8 @@ use Rattle.rowrun.proofs.print_portion.Given as goal
 
 abbrev pub invariant-loop-from : goal.invariant-loop-from
 invariant-loop-from g l =
-    let begun = state l.fn.link l.initial.head l.initial.rows in
-    Printing begun l.bytes (state l.now l.head l.rows) l.from × (length l.out ≡ length l.initial.out)
+    let begun = state l.initial.link l.initial.head l.initial.rows in
+    Printing begun l.bytes (state l.link l.head l.rows) l.from × (length l.out ≡ length l.initial.out)
     × Appends (g.W.Write.contents l.initial.sink) (g.W.Write.contents l.sink) (texts begun (take l.from l.bytes))
 
 abbrev pub decreases-loop-from : goal.decreases-loop-from

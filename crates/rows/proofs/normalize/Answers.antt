@@ -24,7 +24,7 @@ Turn rows k r rows' kept = (length rows' ≡ length rows) × (rows_of rows' ≡ 
 
 pub loop-k-init : goal.loop-k-init
 unfolding root of_bits
-loop-k-init c = (omega arith, omega arith, sym (done_none normalized_row _), (refl, refl))
+loop-k-init c = (omega arith, sym (done_none normalized_row _), (refl, refl))
 
 pub loop-k-preserved : goal.loop-k-preserved
 unfolding normalized_row
@@ -43,12 +43,11 @@ loop-k-preserved c =
       | else-ordinary w ↦ rw (w.rows-is, w.kept-is) (
         w.put_row-else-ordinary.ensures.as_long,
         w.put_row-else-ordinary.ensures.stored ∙ rw (w.scaled-u-else-ordinary.ensures, w.root-norm.ensures, square.ensures),
-        l.invariant.3,
+        l.invariant.2,
       )
     ] in (
-      omega arith,
-      turn.0 ∙ l.invariant.1,
-      turn.1 ∙ rw (c.row_at-r.ensures, l.invariant.2, add-one l.k) (done_next normalized_row l.k (rows_of floats) inside),
+      turn.0 ∙ l.invariant.0,
+      turn.1 ∙ rw (c.row_at-r.ensures, l.invariant.1, add-one l.k) (done_next normalized_row l.k (rows_of floats) inside),
       turn.2,
     )
 
@@ -58,4 +57,4 @@ returns c =
     let args = c.args in
     let l = c.loop-k in
     let all : l.k ≡ length (rows_of args.rows.now) = omega (arith, length-rows_of args.rows.now) in
-    sym (flat_rows l.rows args.n (omega arith)) ∙ ap flat_of (l.invariant.2 ∙ rw all (done_all normalized_row (rows_of args.rows.now)))
+    sym (flat_rows l.rows args.n (omega arith)) ∙ ap flat_of (l.invariant.1 ∙ rw all (done_all normalized_row (rows_of args.rows.now)))

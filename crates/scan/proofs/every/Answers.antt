@@ -1,16 +1,20 @@
 -- `scan::every` meets its contract.
-use borrow.Author.Rules.{rules}
+use mathlib.Core.Path.{sym, ◌∙◌}
 use Rattle.scan.proofs.Turns.{ends, stops, goes_on, fails}
 use Rattle.scan.proofs.every.Goals as goal
 
-pub returns-then-rest-eq0 : goal.returns-then-rest-eq0
-returns-then-rest-eq0 c = stops c.loop-i.invariant c.loop-i-test.true (search rules) c.if-rest-eq0.true
+pub returns-in_err-rest : goal.returns-in_err-rest
+returns-in_err-rest g c = stops c.loop-i.invariant c.loop-i-test.true c.requires c.pay.ensures c.in_err-rest.was c.from_residual.ensures.1
 
 pub loop-i-preserved : goal.loop-i-preserved
-loop-i-preserved c = goes_on c.loop-i.invariant (search rules) (search rules) (search rules) (cc)
+loop-i-preserved g c =
+    goes_on c.loop-i.invariant c.loop-i-test.true c.requires c.pay.ensures c.in_ok-rest.was
+    (rw (← c.row_at.ensures) (sym c.passes.ensures ∙ c.if-not-passes.false))
 
-pub returns-else-passes : goal.returns-else-passes
-returns-else-passes c = fails c.loop-i.invariant (search rules) (search rules) (search rules) (cc)
+pub returns-then-not-passes : goal.returns-then-not-passes
+returns-then-not-passes g c =
+    fails c.loop-i.invariant c.loop-i-test.true c.requires c.pay.ensures c.in_ok-rest.was
+    (rw (← c.row_at.ensures) (sym c.passes.ensures ∙ c.if-not-passes.true))
 
 pub returns : goal.returns
-returns c = ends c.loop-i.invariant c.loop-i-test.false
+returns g c = ends c.loop-i.invariant c.loop-i-test.false

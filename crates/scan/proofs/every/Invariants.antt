@@ -1,6 +1,6 @@
 -- `scan::every` meets its contract.
-use mathlib.Core.Bool.{cond}
-use Prim.Native.Nat.{◌-◌}
+use mathlib.Core.Bool.{cond, not}
+use lib.Dec.{eqb}
 use lib.ListN.{take}
 use Rattle.readings.specs.Readings.{within}
 use Rattle.rows.specs.Rows.{rows_of}
@@ -9,9 +9,6 @@ use Rattle.scan.proofs.Turns.{Turn}
 use Rattle.scan.proofs.every.Given as goal
 
 abbrev pub invariant-loop-i : goal.invariant-loop-i
-invariant-loop-i l =
-    let test = cond l.strict (meets l.eps l.p) (not_above l.eps l.p) in
+invariant-loop-i g l =
+    let test = cond (not (eqb g.row.STRICT 0)) (meets l.eps l.p) (not_above l.eps l.p) in
     Turn test l.rows l.upto l.i l.rest (within l.left (every test (take l.upto (rows_of l.rows))))
-
-abbrev pub decreases-loop-i : goal.decreases-loop-i
-decreases-loop-i l = l.upto - l.i

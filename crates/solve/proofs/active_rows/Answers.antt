@@ -2,10 +2,10 @@
 use Rattle.solve.specs.Solve.{active_rows}
 use Rattle.solve.proofs.active_rows.Goals as goal
 
-pub returns-in-Failed : goal.returns-in-Failed
+pub returns-in-None : goal.returns-in-None
 unfolding active_rows
-returns-in-Failed c = rw c.in-Failed.is c.no_rows.ensures
+returns-in-None c = rw c.in-None.is c.no_rows.ensures
 
-pub returns-in-Done : goal.returns-in-Done
+pub returns-in-Some : goal.returns-in-Some
 unfolding active_rows
-returns-in-Done c = rw (c.fresh.ensures, c.in-Done.is)
+returns-in-Some c = rw (c.fresh.ensures, c.in-Some.is)

@@ -1,47 +1,28 @@
--- `solve::lp_2d_incre_max_y` meets its contract.
+-- `solve::lp_2d_incre_max_y` meets its contract: no solve takes as many readings as it is allowed.
+use mathlib.Core.Path.{◌≡◌}
+use mathlib.Core.List.{List}
 use native.Mathlib.Omega.{arith}
-use Rattle.solve.specs.Solve.{silent}
+use lib.Ieee.{Float}
+use Rattle.float.proofs.Passed.{passed_on}
+use Rattle.once.specs.declared.Task.{Task}
+use Rattle.solve.specs.Solve.{silent, solve, lp2d_incre_max_y}
 use Rattle.solve.proofs.Unlimited.{unlimited}
 use Rattle.solve.proofs.lp_2d_incre_max_y.Goals as goal
 
-pub returns-in-Answered-clause-answer : goal.returns-in-Answered-clause-answer
-unfolding silent
-returns-in-Answered-clause-answer c =
-    let a = c.args in
-    let e = unlimited a.task a.rows.now 18446744073709551615 (omega arith) in
-    rw (← e, ← c.solve-outcome.ensures.answer, c.in-Answered.is)
+enough : (T : Task) (flat : List Float) → solve T 18446744073709551615 flat ≡ lp2d_incre_max_y T flat
+enough T flat = unlimited T flat 18446744073709551615 (omega arith)
 
-pub returns-in-Answered-clause-lent : goal.returns-in-Answered-clause-lent
+pub returns-in_err-got-clause-answer : goal.returns-in_err-got-clause-answer
 unfolding silent
-returns-in-Answered-clause-lent c =
-    let a = c.args in
-    let e = unlimited a.task a.rows.now 18446744073709551615 (omega arith) in
-    rw (← e) c.solve-outcome.ensures.lent
+returns-in_err-got-clause-answer c =
+    rw (← enough c.args.task c.args.rows.now, ← c.solve.ensures.answer, c.in_err-got.was) (passed_on _ c.from_residual.ensures.1)
 
-pub returns-in-Stopped-clause-answer : goal.returns-in-Stopped-clause-answer
-unfolding silent
-returns-in-Stopped-clause-answer c =
-    let a = c.args in
-    let e = unlimited a.task a.rows.now 18446744073709551615 (omega arith) in
-    rw (← e, ← c.solve-outcome.ensures.answer, c.in-Stopped.is)
+pub returns-in_err-got-clause-lent : goal.returns-in_err-got-clause-lent
+returns-in_err-got-clause-lent c = rw (← enough c.args.task c.args.rows.now) c.solve.ensures.lent
 
-pub returns-in-Stopped-clause-lent : goal.returns-in-Stopped-clause-lent
+pub returns-clause-answer : goal.returns-clause-answer
 unfolding silent
-returns-in-Stopped-clause-lent c =
-    let a = c.args in
-    let e = unlimited a.task a.rows.now 18446744073709551615 (omega arith) in
-    rw (← e) c.solve-outcome.ensures.lent
+returns-clause-answer c = rw (← enough c.args.task c.args.rows.now, ← c.solve.ensures.answer, c.in_ok-got.was)
 
-pub returns-in-Refused-clause-answer : goal.returns-in-Refused-clause-answer
-unfolding silent
-returns-in-Refused-clause-answer c =
-    let a = c.args in
-    let e = unlimited a.task a.rows.now 18446744073709551615 (omega arith) in
-    rw (← e, ← c.solve-outcome.ensures.answer, c.in-Refused.is)
-
-pub returns-in-Refused-clause-lent : goal.returns-in-Refused-clause-lent
-unfolding silent
-returns-in-Refused-clause-lent c =
-    let a = c.args in
-    let e = unlimited a.task a.rows.now 18446744073709551615 (omega arith) in
-    rw (← e) c.solve-outcome.ensures.lent
+pub returns-clause-lent : goal.returns-clause-lent
+returns-clause-lent c = rw (← enough c.args.task c.args.rows.now) c.solve.ensures.lent

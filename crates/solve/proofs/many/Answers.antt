@@ -1,67 +1,56 @@
 -- `solve::many` meets its contract. The loop's invariant: what the solves still to go come to with the readings left is what all of them come to.
-use mathlib.Core.Path.{refl, ◌∙◌}
+use mathlib.Core.Path.{◌≡◌, refl, ◌∙◌}
+use mathlib.Core.Logic.{◌⊎◌, inl, inr}
+use mathlib.Core.Bool.{Bool, true, false, not}
+use Prim.Native.Nat.{◌-◌}
 use native.Mathlib.Omega.{arith}
 use Rattle.rows.specs.Constants.{lp_bound, lp_box_growth}
 use Rattle.rows.specs.Rows.{rows_of}
 use Rattle.solve.proofs.Rounds.{from_all, turn}
+use Rattle.solve.proofs.many.Goals.{then-k-eq6-via-then-k-eq6, then-k-eq6-via-else-k-eq6+then-not-round}
 use Rattle.solve.proofs.many.Goals as goal
 
-pub loop-found-init : goal.loop-found-init
+on_it : (sits : Bool) → not sits ≡ false → sits ≡ true
+on_it true e = refl
+on_it false e = absurd (cc)
+
+off_it : (sits : Bool) → not sits ≡ true → sits ≡ false
+off_it true e = absurd (cc)
+off_it false e = refl
+
+pub loop-k-init : goal.loop-k-init
 unfolding lp_bound
-loop-found-init c =
+loop-k-init c =
     let a = c.args in
-    record { even = omega arith; few = omega arith; enough = omega arith; again = refl; rest = from_all a.task a.allowance (rows_of a.rows.now) }
+    record { even = omega arith; few = omega arith; enough = omega arith; rest = from_all a.task a.allowance (rows_of a.rows.now) }
 
 pub overflow_sub-allowance : goal.overflow_sub-allowance
 overflow_sub-allowance c =
-    let l = c.loop-found.invariant in
-    let solved = c.solve_once-got.ensures in
-    omega (arith, (turn (omega arith) l solved.lent (omega arith) solved.answer c.in-Off.is).0)
+    let solved = c.solve_once.ensures in
+    (turn (omega arith) c.loop-k.invariant solved.lent (omega arith) solved.answer c.in-Ok.is).enough
 
-pub overflow_sub-allowance-then-k-eq6 : goal.overflow_sub-allowance-then-k-eq6
-overflow_sub-allowance-then-k-eq6 c =
-    let l = c.loop-found.invariant in
-    let solved = c.solve_once-got.ensures in
-    omega (arith, (turn (omega arith) l solved.lent (omega arith) solved.answer c.in-OnBox.is).0)
-
-pub loop-found-preserved : goal.loop-found-preserved
+pub loop-k-preserved : goal.loop-k-preserved
 unfolding lp_box_growth
-loop-found-preserved c =
-    let l = c.loop-found.invariant in
-    let solved = c.solve_once-got.ensures in
-    (turn (omega arith) l solved.lent (omega arith) solved.answer c.in-OnBox.is).2 (omega (arith, l.few))
+loop-k-preserved c =
+    let l = c.loop-k.invariant in
+    let solved = c.solve_once.ensures in
+    (turn (omega arith) l solved.lent (omega arith) solved.answer c.in-Ok.is).goes_on (omega (arith, l.few)) (on_it _ c.if-not-round.false)
 
-pub returns-in-Spent : goal.returns-in-Spent
-returns-in-Spent c =
-    let l = c.loop-found.invariant in
-    let solved = c.solve_once-got.ensures in
-    let stopped = turn (omega arith) l solved.lent (omega arith) solved.answer c.in-Spent.is in
+pub returns-in-Err : goal.returns-in-Err
+returns-in-Err c =
+    let solved = c.solve_once.ensures in
+    let stopped = turn (omega arith) c.loop-k.invariant solved.lent (omega arith) solved.answer c.in-Err.is in
     record { answer = stopped.0; lent = stopped.1 }
 
-pub returns-in-Off-clause-answer : goal.returns-in-Off-clause-answer
-returns-in-Off-clause-answer c =
-    let l = c.loop-found.invariant in
-    let solved = c.solve_once-got.ensures in
-    let ends = (turn (omega arith) l solved.lent (omega arith) solved.answer c.in-Off.is).1 in
-    c.answered.ensures ∙ ends.0
-
-pub returns-in-Off-clause-lent : goal.returns-in-Off-clause-lent
-returns-in-Off-clause-lent c =
-    let l = c.loop-found.invariant in
-    let solved = c.solve_once-got.ensures in
-    let ends = (turn (omega arith) l solved.lent (omega arith) solved.answer c.in-Off.is).1 in
-    ends.1
-
-pub returns-then-k-eq6-clause-answer : goal.returns-then-k-eq6-clause-answer
-returns-then-k-eq6-clause-answer c =
-    let l = c.loop-found.invariant in
-    let solved = c.solve_once-got.ensures in
-    let ends = (turn (omega arith) l solved.lent (omega arith) solved.answer c.in-OnBox.is).1 (omega (arith, l.few)) in
-    c.answered-then-k-eq6.ensures ∙ ends.0
-
-pub returns-then-k-eq6-clause-lent : goal.returns-then-k-eq6-clause-lent
-returns-then-k-eq6-clause-lent c =
-    let l = c.loop-found.invariant in
-    let solved = c.solve_once-got.ensures in
-    let ends = (turn (omega arith) l solved.lent (omega arith) solved.answer c.in-OnBox.is).1 (omega (arith, l.few)) in
-    ends.1
+pub returns-then-k-eq6 : goal.returns-then-k-eq6
+returns-then-k-eq6 c =
+    let l = c.loop-k.invariant in
+    let solved = c.solve_once.ensures in
+    let turned = turn (omega arith) l solved.lent (omega arith) solved.answer c.in-Ok.is in
+    let last : (6 - c.loop-k.k ≡ 0) ⊎ (c.in-Ok.round.sits_on_box ≡ false) =
+    elim c.then-k-eq6.branch [
+      | then-k-eq6-via-then-k-eq6 w ↦ inl (omega arith)
+      | then-k-eq6-via-else-k-eq6+then-not-round w ↦ inr (off_it _ w.if-not-round.true)
+    ] in
+    let ends = turned.ends last in
+    record { answer = c.answered.ensures ∙ ends.0; lent = ends.1 }

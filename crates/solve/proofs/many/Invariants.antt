@@ -1,11 +1,7 @@
 -- `solve::many` meets its contract. The loop's invariant: what the solves still to go come to with the readings left is what all of them come to.
-use Prim.Native.Nat.{◌-◌}
 use Rattle.rows.specs.Rows.{rows_of}
 use Rattle.solve.proofs.Rounds.{Going}
 use Rattle.solve.proofs.many.Given as goal
 
-abbrev pub invariant-loop-found : goal.invariant-loop-found
-invariant-loop-found l = Going l.task l.allowance l.n (rows_of l.initial.rows) l.rows l.mode l.bound l.left l.k
-
-abbrev pub decreases-loop-found : goal.decreases-loop-found
-decreases-loop-found l = 7 - l.k
+abbrev pub invariant-loop-k : goal.invariant-loop-k
+invariant-loop-k l = Going l.task l.allowance l.n (rows_of l.initial.rows) l.rows l.bound l.left l.k

@@ -9,30 +9,26 @@ use Rattle.solve.proofs.solve.Goals as goal
 pub of_rows-requires : goal.of_rows-requires
 of_rows-requires c =
     let a = c.args in
-    omega (arith, (refusal_0 a.task a.rows.now).0 (sym c.refusal_of-number.ensures ∙ c.if-number-ne0.false))
+    omega (arith, (refusal_0 a.task a.rows.now).0 (sym c.refusal_of.ensures ∙ c.in-None.is))
 
-pub returns-then-number-ne0-clause-answer : goal.returns-then-number-ne0-clause-answer
-returns-then-number-ne0-clause-answer c =
+pub returns-in-Some-clause-answer : goal.returns-in-Some-clause-answer
+returns-in-Some-clause-answer c =
     let a = c.args in
-    let refused = solve_refuses a.task a.rows.now a.allowance (λ e. omega arith) in
-    rw (refused, ← c.refusal_of-number.ensures)
+    rw (solve_refuses a.task a.rows.now a.allowance (sym c.refusal_of.ensures ∙ c.in-Some.is))
 
-pub returns-then-number-ne0-clause-lent : goal.returns-then-number-ne0-clause-lent
-returns-then-number-ne0-clause-lent c =
+pub returns-in-Some-clause-lent : goal.returns-in-Some-clause-lent
+returns-in-Some-clause-lent c =
     let a = c.args in
-    let refused = solve_refuses a.task a.rows.now a.allowance (λ e. omega arith) in
-    rw refused
+    rw (solve_refuses a.task a.rows.now a.allowance (sym c.refusal_of.ensures ∙ c.in-Some.is))
 
-pub returns-clause-answer : goal.returns-clause-answer
+pub returns-in-None-clause-answer : goal.returns-in-None-clause-answer
 unfolding solve
-returns-clause-answer c =
+returns-in-None-clause-answer c =
     let a = c.args in
-    let e = takes a.task (allowed a.task a.allowance) a.rows.now (sym c.refusal_of-number.ensures ∙ c.if-number-ne0.false) in
-    rw e c.of_rows.ensures.answer
+    rw (takes a.task (allowed a.task a.allowance) a.rows.now (sym c.refusal_of.ensures ∙ c.in-None.is)) c.of_rows.ensures.answer
 
-pub returns-clause-lent : goal.returns-clause-lent
+pub returns-in-None-clause-lent : goal.returns-in-None-clause-lent
 unfolding solve
-returns-clause-lent c =
+returns-in-None-clause-lent c =
     let a = c.args in
-    let e = takes a.task (allowed a.task a.allowance) a.rows.now (sym c.refusal_of-number.ensures ∙ c.if-number-ne0.false) in
-    rw e c.of_rows.ensures.lent
+    rw (takes a.task (allowed a.task a.allowance) a.rows.now (sym c.refusal_of.ensures ∙ c.in-None.is)) c.of_rows.ensures.lent

@@ -2,10 +2,10 @@
 use Rattle.step.specs.Step.{flat_end}
 use Rattle.step.proofs.flat_end.Goals as goal
 
-pub returns-in-Empty : goal.returns-in-Empty
+pub returns-in_err-left : goal.returns-in_err-left
 unfolding flat_end
-returns-in-Empty c = simp c.in-Empty.is
+returns-in_err-left c = rw c.in_err-left.was c.from_residual.ensures
 
-pub returns-in-Kept : goal.returns-in-Kept
+pub returns : goal.returns
 unfolding flat_end
-returns-in-Kept c = simp (c.in-Kept.is, ← c.choose-c.ensures)
+returns c = rw (c.in_ok-left.was, c.choose-c.ensures)

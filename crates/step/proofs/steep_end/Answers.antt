@@ -4,10 +4,10 @@ use Rattle.float.specs.Operators.{when◌then◌else◌}
 use Rattle.step.specs.Step.{steep_end}
 use Rattle.step.proofs.steep_end.Goals as goal
 
-pub returns-then-high : goal.returns-then-high
+pub returns-then-t : goal.returns-then-t
 unfolding steep_end when◌then◌else◌
-returns-then-high c = rw (nan_test, c.if-high.true)
+returns-then-t c = rw (nan_test, c.if-t.true)
 
 pub returns : goal.returns
 unfolding steep_end when◌then◌else◌
-returns c = rw (nan_test, c.if-high.false, ← c.min-y.ensures, ← c.set_second-resting.ensures)
+returns c = rw (nan_test, c.if-t.false, ← c.min-y.ensures, ← c.set_second.ensures)

@@ -1,26 +1,14 @@
 -- `step::steep_step` meets its contract.
-use mathlib.Core.Path.{refl, sym, ap}
-use lib.ListN.{take}
+use mathlib.Core.Path.{sym}
 use Rattle.float.specs.Float.{one}
-use Rattle.rows.specs.Rows.{rows_of}
-use Rattle.line.proofs.Reduction.{tells}
-use Rattle.step.specs.Step.{stepped}
-use Rattle.step.proofs.Cases.{steep_spent, steep_done}
+use Rattle.readings.proofs.Laws.{within-pure, then_answers, ends_with_it}
+use Rattle.step.specs.Step.{steep_step}
 use Rattle.step.proofs.steep_step.Goals as goal
 
-pub returns-in-Spent : goal.returns-in-Spent
-unfolding stepped one
-returns-in-Spent c =
-    let a = c.args in
-    sym (ap stepped
-    (steep_spent a.f (take a.upto (rows_of a.rows.now)) a.i a.r a.s a.left refl refl
-    (tells _ c.lp_1d_core-got.ensures c.in-Spent.is)))
+pub returns-in_err-t : goal.returns-in_err-t
+unfolding steep_step one
+returns-in_err-t c = ends_with_it _ _ _ c.lp_1d_core.ensures c.in_err-t.was c.from_residual.ensures.1
 
-pub returns-in-Done : goal.returns-in-Done
-unfolding one
-returns-in-Done c =
-    let a = c.args in
-    rw (c.shown.ensures, c.steep_end.ensures)
-    (sym (ap stepped
-    (steep_done a.f (take a.upto (rows_of a.rows.now)) a.i a.r a.s a.left refl refl
-    (tells _ c.lp_1d_core-got.ensures c.in-Done.is))))
+pub returns : goal.returns
+unfolding steep_step one
+returns c = then_answers _ _ _ c.lp_1d_core.ensures c.in_ok-t.was (rw c.steep_end.ensures (sym (within-pure _ _)))

@@ -6,37 +6,9 @@ use Rattle.text.proofs.Written.{then_ensured, then_two_ensured}
 use Rattle.text.proofs.Lengths.{float-length}
 use Rattle.text.proofs.put_answer.Goals as goal
 
-pub put-word-requires : goal.put-word-requires
-unfolding longest_answer
-put-word-requires c = omega arith
-
-pub put_float-first-requires : goal.put_float-first-requires
-unfolding longest_answer
-put_float-first-requires c = omega arith
-
 pub put_float-requires : goal.put_float-requires
 unfolding longest_answer
 put_float-requires c = omega (arith, float-length c.in-Point.x)
-
-pub put-word-requires-in-Level : goal.put-word-requires-in-Level
-unfolding longest_answer
-put-word-requires-in-Level c = omega arith
-
-pub put_float-requires-in-Level : goal.put_float-requires-in-Level
-unfolding longest_answer
-put_float-requires-in-Level c = omega arith
-
-pub put-word-requires-in-Across : goal.put-word-requires-in-Across
-unfolding longest_answer
-put-word-requires-in-Across c = omega arith
-
-pub put_float-requires-in-Across : goal.put_float-requires-in-Across
-unfolding longest_answer
-put_float-requires-in-Across c = omega arith
-
-pub put-requires : goal.put-requires
-unfolding longest_answer
-put-requires c = omega arith
 
 pub returns-in-Point : goal.returns-in-Point
 unfolding answer_words point_word longest_answer

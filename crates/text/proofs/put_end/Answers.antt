@@ -7,14 +7,6 @@ use Rattle.text.proofs.Written.{then_two_ensured}
 use Rattle.text.proofs.Lengths.{number-length}
 use Rattle.text.proofs.put_end.Goals as goal
 
-pub put-word-requires : goal.put-word-requires
-unfolding longest_end
-put-word-requires c = omega arith
-
-pub put_number-number-requires : goal.put_number-number-requires
-unfolding longest_end
-put_number-number-requires c = omega arith
-
 pub put-requires : goal.put-requires
 unfolding longest_end
 put-requires c = omega (arith, number-length c.args.lines)

@@ -9,14 +9,6 @@ use Rattle.text.proofs.Written.{then_ensured}
 use Rattle.text.proofs.Hex.{hex-length}
 use Rattle.text.proofs.put_float.Goals as goal
 
-pub put-digits-requires : goal.put-digits-requires
-unfolding longest_float
-put-digits-requires c = omega arith
-
-pub put_hex-requires : goal.put_hex-requires
-unfolding longest_float
-put_hex-requires c = omega arith
-
 pub returns : goal.returns
 unfolding float_word longest_float
 returns c =

@@ -1,15 +1,11 @@
 -- `text::put_hex` meets its contract. The loop's invariant: the first i digits are copied, and what is left gives the others.
 use mathlib.Core.Path.{◌≡◌}
-use Prim.Native.Nat.{◌-◌, ◌^◌, ◌≤◌, ◌<◌}
-use lib.ListN.{length, drop}
+use Prim.Native.Nat.{◌-◌, ◌^◌, ◌<◌}
+use lib.ListN.{drop}
 use lib.Seq.{paste}
 use Rattle.text.specs.Text.{hex_from, hex}
 use Rattle.text.proofs.put_hex.Given as goal
 
 abbrev pub invariant-loop-i : goal.invariant-loop-i
 invariant-loop-i l =
-    (l.i ≤ 16) × (l.rest < 2 ^ 64) × (length l.out ≡ length l.initial.out) × (l.out ≡ paste l.initial.out l.at (hex l.n) l.i)
-    × (drop l.i (hex l.n) ≡ hex_from (16 - l.i) l.rest)
-
-abbrev pub decreases-loop-i : goal.decreases-loop-i
-decreases-loop-i l = 16 - l.i
+    (l.rest < 2 ^ 64) × (l.out ≡ paste l.initial.out l.at (hex l.n) l.i) × (drop l.i (hex l.n) ≡ hex_from (16 - l.i) l.rest)

@@ -9,10 +9,6 @@ use Rattle.text.proofs.Decimal.{decimal-length}
 use Rattle.text.proofs.Lengths.{outcome-length}
 use Rattle.text.proofs.put_line.Goals as goal
 
-pub put_decimal-begun-requires : goal.put_decimal-begun-requires
-unfolding longest_line
-put_decimal-begun-requires c = omega arith
-
 pub put_outcome-words-requires : goal.put_outcome-words-requires
 unfolding longest_line
 put_outcome-words-requires c = omega (arith, decimal-length c.args.number)

@@ -8,14 +8,6 @@ use Rattle.text.proofs.Written.{then_ensured}
 use Rattle.text.proofs.Decimal.{decimal-length}
 use Rattle.text.proofs.put_number.Goals as goal
 
-pub put-digits-requires : goal.put-digits-requires
-unfolding longest_number
-put-digits-requires c = omega arith
-
-pub put_decimal-requires : goal.put_decimal-requires
-unfolding longest_number
-put_decimal-requires c = omega arith
-
 pub returns : goal.returns
 unfolding number_word longest_number
 returns c =

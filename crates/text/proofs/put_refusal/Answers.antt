@@ -6,14 +6,6 @@ use Rattle.text.proofs.Written.{then_ensured}
 use Rattle.text.proofs.Lengths.{number-length}
 use Rattle.text.proofs.put_refusal.Goals as goal
 
-pub put-word-requires : goal.put-word-requires
-unfolding longest_refusal
-put-word-requires c = omega arith
-
-pub put_number-requires : goal.put_number-requires
-unfolding longest_refusal
-put_number-requires c = omega arith
-
 pub returns : goal.returns
 unfolding refusal_words refused_word longest_refusal
 returns c =

@@ -1,10 +1,6 @@
 -- `rounding::root::root_digits` meets its contract.
-use Rattle.std.proofs.Common.{◌-◌}
 use Rattle.rounding.proofs.Digits.{Inv}
 use Rattle.rounding.proofs.root.root_digits.Given as goal
 
-abbrev pub invariant-loop-i : goal.invariant-loop-i
-invariant-loop-i l = Inv l.w l.ix l.t l.h l.g l.i
-
-abbrev pub decreases-loop-i : goal.decreases-loop-i
-decreases-loop-i l = 53 - l.i
+abbrev pub invariant-loop : goal.invariant-loop
+invariant-loop l = Inv l.w l.root.rest l.root.trial l.step.down l.step.up l.counter

@@ -1,0 +1,8 @@
+-- `abi::number_of` meets its contract.
+use Rattle.abi.proofs.number_of.Goals as goal
+
+pub returns-in-None : goal.returns-in-None
+returns-in-None c = rw c.in-None.is
+
+pub returns-in-Some : goal.returns-in-Some
+returns-in-Some c = rw c.in-Some.is c.from.ensures

@@ -1,0 +1,7 @@
+-- What the exit of a `?` returns: the error of the call before it.
+use Rattle.std.proofs.Common.{◌≡◌, ap, ◌∙◌, Result, Err}
+use Rattle.std.specs.Result.{IsErrAnd}
+use Rattle.std.proofs.lemmas.Result.{err_from_is_err_and}
+
+pub passed_on : {T E : Type 0} {e : E} (r : Result T E) → IsErrAnd r (λ y. y ≡ e) → r ≡ Err e
+passed_on r h = let p = err_from_is_err_and r h in p.1 ∙ ap Err p.2

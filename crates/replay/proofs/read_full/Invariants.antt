@@ -1,8 +1,0 @@
--- `replay::read_full` reads no more than there is room for.
-use mathlib.Core.Path.{◌≡◌}
-use Prim.Native.Nat.{◌≤◌}
-use lib.ListN.{length}
-use Rattle.replay.proofs.read_full.Given as goal
-
-abbrev pub invariant-loop : goal.invariant-loop
-invariant-loop g l = (length l.text ≡ length l.initial.text) × (l.done ≤ length l.text)
