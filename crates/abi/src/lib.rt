@@ -262,7 +262,7 @@ pub fn solved_of(got: Outcome) -> Solved
 {
     match got {
         Ok(solved) => with_rows(answered(solved.answer), solved.count, solved.active),
-        Err(Unsolved::Stopped(count)) => unsolved(3, count),
+        Err(Unsolved::Stopped(count)) => unsolved(u64::from(Unsolved::Stopped(count)), count),
         Err(Unsolved::Refused(refusal)) => unsolved(u64::from(refusal), 0),
     }
 }
@@ -281,7 +281,7 @@ pub fn unsolved_rows(n: usize, mode: u64) -> Solved
     ensures { result ≡ unsolved (code (or_ten (refusal 3 (3 * n)) mode)) 0 }
 {
     if n > rows::MOST_ROWS {
-        return unsolved(2, 0);
+        return unsolved(u64::from(Refusal::TooMany), 0);
     }
     unsolved(number_of(or_ten(None, mode)), 0)
 }

@@ -60,13 +60,13 @@ module _ (T : Task) (flat : List Float) where
   -- refusal 1, where the floats are not a multiple of 3, and 2, above 4,096 rows
   pub refuses_1 : (A : ℕ) → number (solve T A flat).outcome ≡ 1 ↔ length flat % 3 ≢ 0
   refuses_1 A =
-      let exactly = allowance.solve_refuses_exactly T flat A Uneven (omega arith) number_1 in
+      let exactly = allowance.solve_refuses_by T flat A Uneven (omega arith) number_1 in
       let when = refusals.refusal_1 T flat in
       (λ e. when.0 (exactly.0 e), λ h. exactly.1 (when.1 h))
 
   pub refuses_2 : (A : ℕ) → number (solve T A flat).outcome ≡ 2 ↔ (length flat % 3 ≡ 0) × (most_rows < lent)
   refuses_2 A =
-      let exactly = allowance.solve_refuses_exactly T flat A TooMany (omega arith) number_2 in
+      let exactly = allowance.solve_refuses_by T flat A TooMany (omega arith) number_2 in
       let when = refusals.refusal_2 T flat in
       (λ e. when.0 (exactly.0 e), λ h. exactly.1 (when.1 h))
 

@@ -158,7 +158,9 @@ impl fmt::Display for Told {
     fn fmt<W: fmt::Write>(&self, f: &mut fmt::Formatter<W>) -> fmt::Result {
         match self.0 {
             Ok((answer, active, count)) => write!(f, "{answer} {active} {count}"),
-            Err(Unsolved::Stopped(count)) => write!(f, "refused 3 {count}"),
+            Err(Unsolved::Stopped(count)) => {
+                write!(f, "refused {} {count}", u64::from(Unsolved::Stopped(count)))
+            }
             Err(Unsolved::Refused(refusal)) => write!(f, "refused {}", u64::from(refusal)),
         }
     }

@@ -22,7 +22,7 @@ use Rattle.solve.specs.declared.Answer.{Answer}
 use Rattle.solve.specs.declared.Unsolved.TheVariants.{Stopped, Refused}
 use Rattle.solve.specs.Solve.{Answered, number, refusal_of, allowed, solve, collector}
 use Rattle.solve.proofs.Refusals.{refusal_1, refusal_2}
-use Rattle.solve.proofs.Allowance.{whether, takes, solve_refuses, solve_refuses_exactly}
+use Rattle.solve.proofs.Allowance.{whether, takes, solve_refuses, solve_refuses_by}
 use Rattle.by_value.specs.ByValue.{kept, remains}
 use Rattle.lent.specs.Lent.{solve_rows}
 
@@ -58,14 +58,14 @@ module _ (T : Task) (A : ℕ) (rows : List Row) where
   pub never_one : number (solve_rows T A rows).outcome ≢ 1
   unfolding solve_rows
   never_one e =
-      let uneven = (solve_refuses_exactly T (flat_of rows) A Uneven (omega arith) number_1).0 e in
+      let uneven = (solve_refuses_by T (flat_of rows) A Uneven (omega arith) number_1).0 e in
       (refusal_1 T (flat_of rows)).0 uneven (omega (arith, length-flat_of rows))
 
   -- refusal 2, above 4,096 rows
   pub refuses_2 : number (solve_rows T A rows).outcome ≡ 2 ↔ most_rows < length rows
   unfolding solve_rows
   refuses_2 =
-      let exactly = solve_refuses_exactly T (flat_of rows) A TooMany (omega arith) number_2 in
+      let exactly = solve_refuses_by T (flat_of rows) A TooMany (omega arith) number_2 in
       (λ e. refused_2.0 (exactly.0 e), λ h. exactly.1 (refused_2.1 h))
 
   -- which leaves the rows as they were

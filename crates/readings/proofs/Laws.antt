@@ -16,6 +16,13 @@ use Rattle.readings.specs.Readings.{Counted, pure, read, ◌>>=◌, ◌>>◌, Pa
 pub impossible : ◌≡◌ {A = ℕ} 0 1 → {A : Type 0} → A
 impossible z = absurd (let w : ⊥ = omega arith in w)
 
+-- ---- answers
+
+-- an answer that shows all that was paid can be undone: where a call gave what its contract says, and a match told which answer that is, this was paid
+pub undoing : {A B : Type 0} (shown : Paid A → B) (told : B → Paid A) → ((p : Paid A) → p ≡ told (shown p))
+    → {result answer : B} (p : Paid A) → result ≡ shown p → result ≡ answer → p ≡ told answer
+undoing shown told undone p gave is = undone p ∙ ap told (sym gave ∙ is)
+
 -- ---- one value
 
 module _ {A : Type 0} (l : ℕ) (m : Counted A) where
@@ -94,14 +101,18 @@ module _ {A : Type 0} (l k : ℕ) (m : Counted A) where
 the_error : {A : Type 0} {e : Spent} (answer : Paid A) → IsErrAnd answer (λ y. y ≡ e) → answer ≡ stopped
 the_error answer passed = passed_on answer passed
 
+-- what the call answered was paid
+pub tells : {A : Type 0} (l : ℕ) (m : Counted A) {call p : Paid A} → call ≡ within l m → call ≡ p → within l m ≡ p
+tells l m is was = undoing (λ p. p) (λ p. p) (λ p. refl) (within l m) is was
+
 module _ {A B : Type 0} (l : ℕ) (m : Counted A) (f : A → Counted B) {call : Paid A} (is : call ≡ within l m) {answer : Paid B} where
   -- the call gave a and left k readings: from these the caller answers
   pub then_answers : {a : A} {k : ℕ} → call ≡ paid a k → answer ≡ within k (f a) → answer ≡ within l (m >>= f)
-  then_answers was e = e ∙ sym (goes_on l m f (sym is ∙ was))
+  then_answers was e = e ∙ sym (goes_on l m f (tells l m is was))
 
   -- the call ended for want of readings, and the caller with it
   pub ends_with_it : {e : Spent} → call ≡ Err e → IsErrAnd answer (λ y. y ≡ e) → answer ≡ within l (m >>= f)
-  ends_with_it was passed = the_error answer passed ∙ sym (goes_no_further l m f (sym is ∙ was))
+  ends_with_it was passed = the_error answer passed ∙ sym (goes_no_further l m f (tells l m is was))
 
 module _ {A : Type 0} (l k : ℕ) (m : Counted A) {call : Result ℕ Spent} (is : call ≡ paying l k) {answer : Paid A} where
   -- the same of `pay`

@@ -55,6 +55,12 @@ module _ (T : Task) (rows : List Row) where
 
 -- ---- over flat floats
 
+-- a number that is one refusal's alone tells the refusal
+has_code : (w : Option Refusal) (why : Refusal) → 0 < Refusals.number why → ((r : Refusal) → Refusals.number r ≡ Refusals.number why → r ≡ why)
+    → Refusals.code w ≡ Refusals.number why → w ≡ Some why
+has_code None why some alone e = absurd (omega (arith, some, e))
+has_code (Some r) why some alone e = ap Some (alone r e)
+
 -- refused, or not
 abbrev Whether : Task → List Float → Type 0
 Whether T flat = (refusal_of T flat ≡ None) ⊎ ((why : Refusal) × (refusal_of T flat ≡ Some why))
@@ -124,19 +130,29 @@ module _ (T : Task) (flat : List Float) where
       ]
 
   -- refusals 1 and 2 are given exactly where the floats are refused
-  pub solve_refuses_exactly : (A : ℕ) (why : Refusal) → Refusals.number why < 3 → ((r : Refusal) → Refusals.number r ≡ Refusals.number why → r ≡ why)
-      → number (solve T A flat).outcome ≡ Refusals.number why ↔ refusal_of T flat ≡ Some why
-  solve_refuses_exactly A why few alone = (
-    λ e.
-        elim (whether T flat) [
-          | inl fits ↦
+  pub solve_refuses_exactly : (A k : ℕ) → 0 < k → k < 3 → number (solve T A flat).outcome ≡ k ↔ Refusals.code (refusal_of T flat) ≡ k
+  solve_refuses_exactly A k some few =
+      elim (whether T flat) [
+        | inl fits ↦ (
+          λ e.
               let same = sym (ap number (outcome_where_taken A fits)) ∙ e in
-              let three = number_above T (rows_of flat) A (above_where_refused T (rows_of flat) A (λ zero. omega (arith, same, numbered why))) in
-              absurd (omega (arith, same, three))
-          | inr refused ↦ refused.1 ∙ ap Some (alone refused.0 (sym (number_where_refused A refused.1) ∙ e))
-        ],
-    λ e. number_where_refused A e,
-  )
+              let three = number_above T (rows_of flat) A (above_where_refused T (rows_of flat) A (λ zero. omega (arith, same, zero))) in
+              absurd (omega (arith, same, three)),
+          λ e. absurd (omega (arith, rw fits at e)),
+        )
+        | inr refused ↦
+            let given : number (solve T A flat).outcome ≡ Refusals.code (refusal_of T flat) = rw refused.1 (number_where_refused A refused.1) in
+            (λ e. sym given ∙ e, λ e. given ∙ e)
+      ]
+
+  -- that is, where the refusal alone has the number, by that refusal
+  pub solve_refuses_by : (A : ℕ) (why : Refusal) → Refusals.number why < 3 → ((r : Refusal) → Refusals.number r ≡ Refusals.number why → r ≡ why)
+      → number (solve T A flat).outcome ≡ Refusals.number why ↔ refusal_of T flat ≡ Some why
+  solve_refuses_by A why few alone =
+      let exactly = solve_refuses_exactly A (Refusals.number why) (numbered why) few in (
+        λ e. has_code (refusal_of T flat) why (numbered why) alone (exactly.0 e),
+        λ e. exactly.1 (ap Refusals.code e),
+      )
 
   pub solve_three_exactly : (A : ℕ) → number (solve T A flat).outcome ≡ 3 ↔ (refusal_of T flat ≡ None) × (A < count (all_solves T (rows_of flat)))
   solve_three_exactly A = (

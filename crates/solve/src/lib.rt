@@ -115,7 +115,9 @@ fn many(rows: &mut [f64], n: usize, task: Task, allowance: u64) -> Outcome
 {
     let mut bound = 1e6;
     let mut left = allowance;
-    for k in 0..7u32 {
+    let mut k = 0usize;
+    // No `for`: the seventh solve returns whatever it finds, and no statement stands behind the loop.
+    loop {
         match once::solve_once(rows, n, task, task.normalize, bound, left) {
             Err(Spent) => return Err(Unsolved::Stopped(allowance)),
             Ok((round, over)) => {
@@ -126,8 +128,8 @@ fn many(rows: &mut [f64], n: usize, task: Task, allowance: u64) -> Outcome
             }
         }
         bound = bound * 1e3;
+        k += 1;
     }
-    unreachable!()
 }
 
 // Any number of rows.

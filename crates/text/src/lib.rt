@@ -25,9 +25,11 @@ pub fn put(out: &mut [u8], at: usize, text: &[u8]) -> usize
     ensures end { result ≡ at + length text.now }
     ensures out { out.new ≡ written out.old at text.now }
 {
-    let end = at + text.len();
-    out[at..end].copy_from_slice(text);
-    end
+    // Byte by byte: `copy_from_slice` is built as a call of C's `memmove`, which the library asks nobody for.
+    for (i, byte) in text.iter().enumerate() {
+        out[at + i] = *byte;
+    }
+    at + text.len()
 }
 
 fn glyph(d: u64) -> u8

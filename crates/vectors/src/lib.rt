@@ -17,7 +17,7 @@ fn digit(byte: u8) -> Option<u64> {
 }
 
 // What stands behind the first byte that is `end` or below it: a blank ends a word, and a newline, which is below it, a word and a line.
-fn behind(text: &[u8], end: u8) -> &[u8]
+pub fn behind(text: &[u8], end: u8) -> &[u8]
     ensures { 0 < length text.now → length result.now < length text.now }
 {
     match text.iter().position(|byte| *byte <= end) {
