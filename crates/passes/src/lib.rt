@@ -114,7 +114,7 @@ pub fn forward(
             }
         }
     }
-    Ok((Some(s), rest))
+    Ok((Some(s), rest)) // past the last row
 }
 
 // ---- the deferred rounds
